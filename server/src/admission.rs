@@ -1,4 +1,4 @@
-//! How a thread comes to a shard's body: as whichever server the board admits.
+//! How a thread gets access to a shard's body: as the server that the board admits.
 use crate::body::BoxedBody;
 use crate::cluster::Cluster;
 use crate::passes::{Passes, RequestTarget};
@@ -8,8 +8,8 @@ use crate::wait::NotAdmitted;
 use durkenzo::{AdmitFault, PassFault, Permit};
 use std::sync::Arc;
 
-/// A thread's way to shards in memory. Over a store a thread comes to no shard by itself: there each admission is
-/// refused by `UnknownShard`, and nothing is counted by server.
+/// A thread's access to shards in memory. Over a store, threads don't access shards themselves: each admission is
+/// refused with `UnknownShard`, and nothing is counted by server.
 #[derive(Debug)]
 pub struct Admission {
     cluster: Arc<Cluster>,
@@ -18,7 +18,7 @@ pub struct Admission {
 }
 
 impl Admission {
-    /// That of a thread with these counts.
+    /// Makes the admission of a thread with these counters.
     ///
     /// # Errors
     ///
@@ -37,13 +37,13 @@ impl Admission {
         })
     }
 
-    /// Returns whether the thread comes to shards by itself.
+    /// Returns whether the thread accesses shards itself.
     pub fn has_passes(&self) -> bool {
         self.passes.is_some()
     }
 
-    /// Gives back the passes of servers that aren't reached any more, and takes those of servers that are back. Returns
-    /// the version of their presence since which that is so.
+    /// Gives back the passes of servers that requests don't reach any more, and takes passes of servers that are back.
+    /// Returns the version of the servers' presence to which the passes belong.
     ///
     /// # Errors
     ///
@@ -55,23 +55,23 @@ impl Admission {
         }
     }
 
-    /// Returns what the thread counts.
+    /// Returns the thread's counters.
     pub fn stats(&self) -> &Stats {
         &self.stats
     }
 
-    /// Counts commands that were done under the last permit, so many of which were answered by an error.
+    /// Counts the commands that were done under the last permit, and how many of them were answered with an error.
     pub fn note_done(&self, commands: u64, errors: u64) {
         if let Some(passes) = &self.passes {
             passes.note_done(commands, errors);
         }
     }
 
-    /// Has the closure work on the body of the shard, as the server that executes it.
+    /// Runs the closure on the body of the shard, as the server that executes it.
     ///
     /// # Errors
     ///
-    /// What the request waits for, or why the board refuses it; then nothing was done.
+    /// Returns the reason to wait, or the board's reason to refuse. In both cases nothing was done.
     #[inline]
     pub fn admit<R>(
         &mut self,
@@ -81,7 +81,7 @@ impl Admission {
         self.admit_permit(shard, |permit| work(permit))
     }
 
-    /// The same, with the permit.
+    /// Does the same, and passes the permit to the closure.
     ///
     /// # Errors
     ///
@@ -96,7 +96,7 @@ impl Admission {
         passes.admit(passes.target(shard), shard, work)
     }
 
-    /// Has the closure work on the body of the shard, for a request to this server, which may forward it.
+    /// Runs the closure on the body of the shard, for a request to this server, which may forward it.
     ///
     /// # Errors
     ///
@@ -114,5 +114,5 @@ impl Admission {
     }
 }
 
-/// Why a thread over a store comes to no shard by itself.
+/// Why a thread over a store doesn't access shards itself.
 const NO_PASSES: NotAdmitted = NotAdmitted::Refused(AdmitFault::UnknownShard);

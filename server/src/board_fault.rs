@@ -1,4 +1,4 @@
-//! Why a cluster isn't opened.
+//! Why a cluster can't be opened.
 use durkenzo::SettingsFault;
 use std::error::Error;
 use std::fmt;
@@ -6,9 +6,9 @@ use std::fmt;
 /// Why there is no board.
 #[derive(Clone, Copy, Debug, PartialEq, Eq)]
 pub enum BoardFault {
-    /// Memory for what its shards hold was refused.
+    /// Memory for the shards' contents was refused.
     NoMemory,
-    /// Its settings aren't accepted.
+    /// The settings aren't accepted.
     Settings(SettingsFault),
 }
 

@@ -1,9 +1,11 @@
-//! What all threads share: how the server runs, where data lies, who is present, and what reaches each thread.
+//! The state that all threads share: how the server runs, where data lies, which servers are present, and the inlets of
+//! each thread.
 use crate::board_fault::BoardFault;
 use crate::command::Cursors;
 use crate::configuration::Configuration;
 use crate::guesses::Guesses;
 use crate::io::Inlet;
+use crate::membership::Membership;
 use crate::presence::Presence;
 use crate::stats::ChangesMade;
 use crate::storage::{InMemory, Storage};
@@ -21,18 +23,19 @@ pub struct Cluster {
     pub presence: Presence,
     /// How far servers' restarts have come.
     pub progress: Progress,
-    /// How often each change of a shard was made.
+    /// How often each kind of change to a shard was made.
     pub changes_made: ChangesMade,
-    /// From where wrong passwords came lately.
+    /// The addresses from which wrong passwords came lately.
     pub guesses: Guesses,
-    /// Where SCAN's cursors stand.
+    /// The positions of SCAN's cursors.
     pub cursors: Cursors,
-    /// Where data lies.
+    /// The storage of data.
     pub storage: Storage,
     /// When the server started.
     pub started: Instant,
     inlets: OnceLock<Box<[Arc<Inlet>]>>,
     changes: AtomicU64,
+    leaves: AtomicBool,
     stops: AtomicBool,
     /// Whether connections may still be brought to threads.
     accepts: AtomicBool,
@@ -41,14 +44,14 @@ pub struct Cluster {
 }
 
 impl Cluster {
-    /// A cluster whose data lies there.
+    /// Makes a cluster whose data lies there.
     pub fn new(configuration: Configuration, storage: Storage) -> Cluster {
         let cursors = match &storage {
             Storage::Memory(_) | Storage::Folder(_) => Cursors::default(),
             Storage::Etcd(_) => Cursors::among_others(),
         };
         Cluster {
-            presence: Presence::new(configuration.servers),
+            presence: Presence::new(Membership::of(&configuration)),
             progress: Progress::default(),
             changes_made: ChangesMade::default(),
             guesses: Guesses::default(),
@@ -57,6 +60,7 @@ impl Cluster {
             started: Instant::now(),
             inlets: OnceLock::new(),
             changes: AtomicU64::new(0),
+            leaves: AtomicBool::new(false),
             stops: AtomicBool::new(false),
             accepts: AtomicBool::new(false),
             polls: AtomicBool::new(false),
@@ -64,7 +68,7 @@ impl Cluster {
         }
     }
 
-    /// A cluster whose data lies in the memory of this process.
+    /// Returns a cluster whose data lies in the memory of this process.
     ///
     /// # Errors
     ///
@@ -74,14 +78,14 @@ impl Cluster {
         Ok(Cluster::new(configuration, Storage::Memory(memory)))
     }
 
-    /// How the server runs, in lines for an operator.
+    /// Returns how the server runs, in lines for an operator.
     pub fn settings_lines(&self) -> Vec<String> {
         let configuration = &self.configuration;
         vec![
-            format!("servers {}", configuration.servers),
+            format!("servers {}", self.presence.servers()),
             format!("shards {}", self.shards()),
             format!("keys by {}", configuration.rule.name()),
-            format!("restarts at once {}", configuration.restarts),
+            format!("restarts at once {}", self.presence.restarts()),
             format!("ceiling {}", configuration.ceiling),
             format!("wait {} ms", configuration.wait.as_millis()),
             format!("limits {}", configuration.limits()),
@@ -89,13 +93,32 @@ impl Cluster {
         ]
     }
 
-    /// The number of shards.
+    /// Adopts these settings, which lie in the store that several processes share.
+    pub fn go_by(&self, settings: &[u8]) {
+        let read = Membership::of_stored(settings);
+        match (read, self.storage.peers()) {
+            (Ok(membership), Some(peers)) => {
+                let (own, servers) = (peers.member().server(), membership.servers);
+                peers.go_by(settings, servers);
+                self.presence.go_by(membership);
+                self.note_change();
+                if own > servers {
+                    tracing::error!("server {own} was taken out: there are servers 1 to {servers}");
+                    self.stop();
+                }
+            }
+            (Ok(_), None) => {}
+            (Err(fault), _) => tracing::warn!(%fault, "the settings in force aren't read"),
+        }
+    }
+
+    /// Returns the number of shards.
     pub fn shards(&self) -> u16 {
         self.configuration.rule.shards()
     }
 
-    /// Whether one more client may come: where each has to show who it is first, there is a place as long as those who
-    /// have leave one, and else while all together do.
+    /// Returns whether one more client may connect. If each client must first log in, the clients that have logged in
+    /// must leave a place. Otherwise all clients together must leave a place.
     pub fn takes_client(&self) -> bool {
         let open: u64 = self.inlets().iter().map(|it| it.stats().open.get()).sum();
         match self.configuration.safety.is_guarded() {
@@ -104,66 +127,77 @@ impl Cluster {
         }
     }
 
-    /// How many clients have shown who they are, or needn't.
+    /// Returns how many clients have logged in, or needn't.
     pub fn known_clients(&self) -> usize {
         self.inlets().iter().map(|it| it.known()).sum()
     }
 
     /// Gives the cluster its threads, once.
     pub fn set_inlets(&self, inlets: Box<[Arc<Inlet>]>) {
-        // A second time changes nothing.
+        // A second call changes nothing.
         let _ = self.inlets.set(inlets);
     }
 
-    /// What reaches the threads that own connections.
+    /// Returns the inlets of the threads that own connections.
     pub fn inlets(&self) -> &[Arc<Inlet>] {
         self.inlets.get().map_or(&[], |it| it)
     }
 
-    /// Has all threads look again at what waits, as a shard or a server has changed.
+    /// Has all threads look again at waiting commands, because a shard or a server has changed.
     pub fn note_change(&self) {
         self.changes.fetch_add(1, Ordering::AcqRel);
         self.wake();
     }
 
-    /// How many changes there were that waiting commands may go on by.
+    /// Returns how many changes there were that may let waiting commands go on.
     pub fn changes(&self) -> u64 {
         self.changes.load(Ordering::Acquire)
     }
 
-    /// Whether the thread may poll for events without sleeping, which one does at a time: further ones would take
+    /// Returns whether the thread may poll for events without sleeping. One thread at a time does: more would take
     /// processors from clients.
     pub fn begin_to_poll(&self) -> bool {
         !self.polls.swap(true, Ordering::AcqRel)
     }
 
-    /// Notes that the thread doesn't any more.
+    /// Notes that the thread has stopped polling.
     pub fn end_to_poll(&self) {
         self.polls.store(false, Ordering::Release);
     }
 
-    /// Notes that connections may be brought to threads from now on, until [`Cluster::end_to_accept`].
+    /// Notes that connections may be given to threads from now on, until [`Cluster::end_to_accept`].
     pub fn begin_to_accept(&self) {
         self.accepts.store(true, Ordering::Release);
     }
 
-    /// Notes that none is brought any more: what was is there for who sees this.
+    /// Notes that no more connections are given to threads. If a thread sees this note, it also sees every connection
+    /// that was given to it before.
     pub fn end_to_accept(&self) {
         self.accepts.store(false, Ordering::Release);
     }
 
-    /// Whether connections may still be brought to threads.
+    /// Returns whether connections may still be given to threads.
     pub fn is_accepting(&self) -> bool {
         self.accepts.load(Ordering::Acquire)
     }
 
-    /// Has all threads come to their end.
+    /// Notes that the process gives its shards away, and then ends.
+    pub fn leave(&self) {
+        self.leaves.store(true, Ordering::Release);
+    }
+
+    /// Returns whether clients should go elsewhere, because the process is about to end.
+    pub fn is_leaving(&self) -> bool {
+        self.leaves.load(Ordering::Acquire) || self.is_stopping()
+    }
+
+    /// Has all threads end.
     pub fn stop(&self) {
         self.stops.store(true, Ordering::Release);
         self.inlets().iter().for_each(|it| it.wake_for_stop());
     }
 
-    /// Whether threads are to end.
+    /// Returns whether threads must end.
     pub fn is_stopping(&self) -> bool {
         self.stops.load(Ordering::Acquire)
     }

@@ -1,4 +1,4 @@
-//! How a server is to run: what the command line, and the files that it names, come to.
+//! The configuration of a server, from the command line and the files that it names.
 use crate::descriptors::{Descriptors, MOST_OF_PAGE};
 use crate::domains::Domains;
 use crate::dump::USUAL_FOLDER;
@@ -6,60 +6,60 @@ use crate::keyspace::{Keyspace, Rule};
 use crate::options::Options;
 use crate::run::BoxError;
 use crate::safety::Safety;
-use crate::settings::{even_bounds, Settings, MAX_CEILING};
-use durkenzo_driver::{Reads, Tuning};
+use crate::settings::{self, even_bounds, Settings, MAX_CEILING};
+use durkenzo_driver::{split_settings, Reads, ShardOptions};
 use std::fs;
 use std::path::{Path, PathBuf};
 use std::time::Duration;
 
-/// How many clients may always come at once before they have shown who they are.
+/// How many clients may always be connected at once before they have logged in.
 const LEAST_STRANGERS: usize = 64;
-/// Of the descriptors for clients, one of so many is for those who haven't shown who they are, where there are few.
+/// If there are few descriptors for clients, one in so many is for clients that haven't logged in.
 const STRANGERS: usize = 5;
 
-/// How a server is to run.
+/// The configuration of a server.
 #[derive(Clone, Debug)]
 pub struct Configuration {
-    /// How keys are given to shards.
+    /// How keys are assigned to shards.
     pub rule: Rule,
-    /// Servers 1 to this one.
+    /// The number of servers, which are numbered from 1 on.
     pub servers: u16,
-    /// How many servers may be away for a restart at once.
+    /// The most servers that may be away for a restart at once.
     pub restarts: u16,
     /// The greatest generation of a shard.
     pub ceiling: u64,
-    /// The servers that fail together.
+    /// The servers that fail together, by domain.
     pub domains: Domains,
-    /// How many connections there may be of clients that have shown who they are, or needn't.
+    /// The most connections of clients that have logged in, or needn't.
     pub most_clients: usize,
-    /// How many there may be beside these of clients that haven't.
+    /// The most connections beside these, of clients that haven't logged in.
     pub most_strangers: usize,
-    /// How many connections to the page there may be.
+    /// The most connections to the page.
     pub most_of_page: usize,
-    /// How long a command waits for a shard that nobody executes.
+    /// How long a command waits for a shard that no server executes.
     pub wait: Duration,
-    /// How often a thread tries a shard that another one has before it goes on with other connections.
+    /// How often a thread tries a shard that another thread has, before it goes on with other connections.
     pub spins: u32,
     /// How long a thread polls for events before it sleeps.
     pub busy_poll: Duration,
-    /// How long a step of a migration takes at least.
+    /// The least time that a step of a migration takes.
     pub pace: Duration,
-    /// How long a stop takes at most, while clients send, or read what they were answered.
+    /// The most time that a stop takes while clients still send, or read their answers.
     pub grace: Duration,
-    /// How many batches the log of a shard in a folder has before a base stands for them.
+    /// How many batches the log of a shard in a folder has before a new base replaces them.
     pub log_batches: u64,
-    /// How reads are answered, where servers have leases.
+    /// How reads are answered, if servers have leases.
     pub reads: Reads,
     /// The folder of dumps.
     pub folder: PathBuf,
-    /// Who may reach it, and what they may do.
+    /// Who may connect, and what they may do.
     pub safety: Safety,
-    /// The settings as a line, where a file gave some: their capacities, groups and caps bind too.
+    /// The settings as a line, if a file gave some. Their capacities, groups and caps apply, too.
     pub settings: Option<Box<str>>,
 }
 
 impl Configuration {
-    /// One server with keys of these shards, and what is usual in all else.
+    /// Makes the configuration of one server with keys of these shards, and defaults for everything else.
     pub fn new(rule: Rule) -> Configuration {
         Configuration {
             rule,
@@ -75,7 +75,7 @@ impl Configuration {
             busy_poll: Duration::ZERO,
             pace: Duration::ZERO,
             grace: Duration::from_secs(2),
-            log_batches: Tuning::default().most_batches,
+            log_batches: ShardOptions::default().most_batches,
             reads: Reads::Exact,
             folder: PathBuf::from(USUAL_FOLDER),
             safety: Safety::default(),
@@ -83,11 +83,11 @@ impl Configuration {
         }
     }
 
-    /// Returns how these options, with the settings that they name, have the server run.
+    /// Makes the configuration from these options and the settings file that they name.
     ///
     /// # Errors
     ///
-    /// A file that they name can't be read or isn't such a file, or options don't go together.
+    /// If a file that they name can't be read or is malformed, or if options contradict each other.
     pub fn of(options: &Options) -> Result<Configuration, BoxError> {
         let settings = options.settings.as_deref().map(settings_of).transpose()?;
         let (servers, restarts, ceiling) = match &settings {
@@ -116,7 +116,7 @@ impl Configuration {
         })
     }
 
-    /// Has no more connections than there are descriptors for.
+    /// Lowers the numbers of connections to the descriptors that there are.
     pub fn fit(&mut self, descriptors: Descriptors) {
         let wanted = self.most_clients;
         let strangers = match self.safety.is_guarded() {
@@ -137,16 +137,34 @@ impl Configuration {
         }
     }
 
-    /// Returns how shards of a store are driven.
-    pub fn tuning(&self) -> Tuning {
-        Tuning {
+    /// Adopts the settings that lie in the store of several processes, if they differ from its own.
+    ///
+    /// # Errors
+    ///
+    /// If their servers aren't numbered from 1 without gaps.
+    pub fn go_by(&mut self, stored: &str) -> Result<(), BoxError> {
+        let line = split_settings(stored).1;
+        if settings::line(self) == line {
+            return Ok(());
+        }
+        let settings = Settings::of(line)?;
+        self.servers = settings.servers();
+        self.restarts = settings.restarts();
+        self.domains = settings.domains();
+        self.settings = Some(line.into());
+        Ok(())
+    }
+
+    /// Returns the options by which shards of a store are driven.
+    pub fn shard_options(&self) -> ShardOptions {
+        ShardOptions {
             wait: self.wait,
             most_batches: self.log_batches,
             reads: self.reads,
         }
     }
 
-    /// What binds plans and restarts.
+    /// Returns what limits plans and restarts.
     pub fn limits(&self) -> &'static str {
         match self.settings {
             Some(_) => "capacities, groups, domains and caps of the settings",
@@ -157,7 +175,7 @@ impl Configuration {
 
 fn settings_of(path: &Path) -> Result<Settings, BoxError> {
     let text = fs::read_to_string(path).map_err(|error| format!("{}: {error}", path.display()))?;
-    // Of a script its first line is taken.
+    // If the file is a script, only its first line counts.
     let first = text.lines().next().unwrap_or_default();
     let settings = Settings::of(if first.ends_with('}') { first } else { &text });
     Ok(settings.map_err(|fault| format!("{}: {fault}", path.display()))?)
@@ -236,7 +254,7 @@ mod tests {
         );
     }
 
-    /// How many clients and strangers there may be of so many that are wanted, with so many descriptors for them.
+    /// Returns how many clients and strangers there may be if so many are wanted, with so many descriptors for them.
     fn fitted(wanted: usize, of_clients: usize, is_guarded: bool) -> (usize, usize) {
         let mut configuration = Configuration {
             most_clients: wanted,

@@ -1,30 +1,30 @@
-//! How many files the system lets the process have open, and for what some of them are kept.
+//! How many files the system lets the process open, and for what some of them are reserved.
 use durkenzo_control::descriptors::raise_limit;
 
-/// Kept for what the process opens by itself: its log, listeners, files of the store and of dumps.
+/// Reserved for the files that the process opens itself: its log, listeners, files of the store and of dumps.
 const OWN: usize = 64;
-/// How many a thread for clients has.
+/// How many a thread for clients takes.
 const OF_THREAD: usize = 4;
-/// How many connections the page has at most.
+/// The most connections of the page.
 pub const MOST_OF_PAGE: usize = 256;
-/// How many a process that has just connected may take, and how many of these there are at most.
+/// How many a process takes that has just connected, times the most of these.
 const STRANGERS: usize = 3 * 64;
-/// How many each other process of the cluster takes: a connection to it and one of it, each with copies.
+/// How many each other process of the cluster takes: a connection to it and one from it, each with copies.
 const OF_PEER: usize = 6;
 
-/// What descriptors are kept for, beside clients.
+/// The needs for descriptors beside those of clients.
 #[derive(Clone, Copy, Debug)]
 pub struct Needs {
-    /// Threads for clients.
+    /// The number of threads for clients.
     pub threads: usize,
     /// Whether there is a page.
     pub has_page: bool,
-    /// Other processes of the cluster, if it has several.
+    /// The number of other processes of the cluster, if it has several.
     pub peers: Option<usize>,
 }
 
 impl Needs {
-    /// How many descriptors that takes.
+    /// Returns how many descriptors that takes.
     fn count(self) -> usize {
         let page = if self.has_page { MOST_OF_PAGE } else { 0 };
         let peers = self.peers.map_or(0, |it| STRANGERS + OF_PEER * it);
@@ -32,24 +32,24 @@ impl Needs {
     }
 }
 
-/// How the process' descriptors are shared out.
+/// How the descriptors of the process are shared out.
 #[derive(Clone, Copy, Debug, PartialEq, Eq)]
 pub struct Descriptors {
     /// How many there are in all.
     pub most: usize,
-    /// How many connections of clients may have.
+    /// How many the connections of clients may have.
     pub of_clients: usize,
-    /// How many connections to the page may have.
+    /// How many the connections to the page may have.
     pub of_page: usize,
 }
 
 impl Descriptors {
-    /// Raises the process' soft limit to its hard one, as Redis does, and shares out what there is then.
+    /// Raises the soft limit of the process to its hard one, as Redis does, and shares out the descriptors.
     pub fn raised(needs: Needs) -> Descriptors {
         Descriptors::shared(raise_limit(), needs)
     }
 
-    /// Shares out so many. Clients get at least half, however few there are.
+    /// Shares out so many descriptors. Clients get at least half, however few there are.
     fn shared(most: usize, needs: Needs) -> Descriptors {
         let kept = needs.count().min(most / 2);
         Descriptors {

@@ -1,24 +1,24 @@
 //! Servers that fail together.
 
-/// The domain of each server. How many servers of one may be away at once the library judges.
+/// The domain of each server. The library decides how many servers of one domain may be away at once.
 #[derive(Clone, Debug, Default, PartialEq, Eq)]
 pub struct Domains {
-    /// From server 1.
+    /// The domains, from server 1 on.
     of: Vec<u16>,
 }
 
 impl Domains {
-    /// Those of servers from server 1.
+    /// Makes the domains of the servers from server 1 on.
     pub fn new(of: Vec<u16>) -> Domains {
         Domains { of }
     }
 
-    /// So many domains, in which so many servers take turns.
+    /// Makes so many domains, to which so many servers are assigned in turn.
     pub fn in_turn(domains: u16, servers: u16) -> Domains {
         Domains::new((0..servers).map(|it| it % domains).collect())
     }
 
-    /// The server's domain.
+    /// Returns the server's domain.
     pub fn domain_of(&self, server: u16) -> u16 {
         let index = usize::from(server).saturating_sub(1);
         self.of.get(index).copied().unwrap_or(0)

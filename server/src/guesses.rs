@@ -1,20 +1,20 @@
-//! How guesses of passwords are slowed.
+//! How the guessing of passwords is slowed down.
 use std::collections::HashMap;
 use std::net::IpAddr;
 use std::sync::{Mutex, PoisonError};
 use std::time::{Duration, Instant};
 
-/// How many wrong passwords cost nothing, as of who mistypes one.
+/// How many wrong passwords cost nothing, because people mistype them.
 const FREE: u32 = 3;
-/// For how long a guess waits at first, each next one twice as long, and at most.
+/// How long a guess waits at first. Each next one waits twice as long, up to the most.
 const FIRST: Duration = Duration::from_millis(10);
 const LONGEST: Duration = Duration::from_secs(1);
-/// After how long without a wrong password those before are forgotten.
+/// Wrong passwords are forgotten if no other one comes for this long.
 const FORGOTTEN: Duration = Duration::from_secs(60);
-/// How many origins are known at a time.
+/// The most origins that are remembered at a time.
 const MOST: usize = 4_096;
 
-/// Where clients connect from: an address, or of version 6 the network that one place has.
+/// The origin of clients: an IPv4 address, or the IPv6 network that one site usually has.
 #[derive(Clone, Copy, Debug, PartialEq, Eq, Hash)]
 pub struct ClientOrigin(u64);
 
@@ -22,13 +22,13 @@ impl From<IpAddr> for ClientOrigin {
     fn from(address: IpAddr) -> ClientOrigin {
         match address.to_canonical() {
             IpAddr::V4(four) => ClientOrigin(u32::from(four).into()),
-            // No network of these begins with so many zeros.
+            // No network of IPv6 in use begins with so many zeros.
             IpAddr::V6(six) => ClientOrigin((u128::from(six) >> 64) as u64),
         }
     }
 }
 
-/// From where wrong passwords came lately.
+/// The origins of recent wrong passwords.
 #[derive(Debug, Default)]
 pub struct Guesses {
     wrong: Mutex<HashMap<ClientOrigin, Wrong>>,
@@ -47,7 +47,8 @@ impl Wrong {
 }
 
 impl Guesses {
-    /// For how long a guess from there waits before it is looked at, of a connection that gave so many wrong ones.
+    /// Returns how long a guess from this origin waits before it is checked, on a connection that has given so many
+    /// wrong ones.
     pub fn wait(&self, origin: ClientOrigin, of_connection: u32) -> Duration {
         let wrong = self.wrong.lock().unwrap_or_else(PoisonError::into_inner);
         let found = wrong.get(&origin).filter(|it| !it.is_forgotten());
@@ -55,7 +56,7 @@ impl Guesses {
         wait_after(of_origin.max(of_connection))
     }
 
-    /// Notes that a wrong password came from there. Where too many origins are known the oldest is forgotten.
+    /// Notes that a wrong password came from there. If too many origins are remembered, the oldest one is forgotten.
     pub fn note_wrong(&self, origin: ClientOrigin) {
         let mut wrong = self.wrong.lock().unwrap_or_else(PoisonError::into_inner);
         if wrong.len() >= MOST && !wrong.contains_key(&origin) {
@@ -73,7 +74,7 @@ impl Guesses {
     }
 }
 
-/// For how long a guess waits after so many wrong ones.
+/// Returns how long a guess waits after so many wrong ones.
 fn wait_after(wrong: u32) -> Duration {
     match wrong.checked_sub(FREE) {
         None => Duration::ZERO,

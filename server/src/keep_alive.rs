@@ -1,22 +1,22 @@
-//! How it is found out that a client's machine is gone without a word, as by a loss of power.
+//! How the server finds out that a client's machine has gone without a word, for instance because it lost power.
 use socket2::{SockRef, TcpKeepalive};
 use std::io;
 use std::os::fd::AsRawFd;
 use std::time::Duration;
 
-/// After how long without a byte a client's system is asked whether it is there, as by Redis.
+/// After this long without a byte, a client's system is asked whether it is there, as by Redis.
 const CLIENT: Duration = Duration::from_secs(300);
-/// How long it may take to say that it has what was sent, or has room for it.
+/// How long it may take to acknowledge bytes, or to have room for them.
 const CLIENT_SILENT: Duration = Duration::from_secs(600);
 /// How often it is asked in vain.
 const ASKED: u32 = 3;
 
-/// Has a client's connection end ten minutes after its machine has gone, whether something was sent to it or not; or
-/// after it has taken nothing for so long of what it was to be sent.
+/// Makes a client's connection end ten minutes after its machine has gone, whether bytes were sent to it or not; or
+/// after it has taken no bytes for ten minutes although some were waiting for it.
 ///
 /// # Errors
 ///
-/// Where the system refuses that.
+/// If the system refuses that.
 pub fn of_client(socket: &impl AsRawFd) -> io::Result<()> {
     let socket = SockRef::from(socket);
     let kept = TcpKeepalive::new().with_time(CLIENT);

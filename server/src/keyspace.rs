@@ -1,30 +1,30 @@
-//! Which shard a key is of.
+//! The assignment of keys to shards.
 use crate::packed::packed;
 use durkenzo::{Layout, LayoutFault};
 
-/// How keys are given to shards; each thread has one of its own.
+/// The assignment of keys to shards. Each thread has its own.
 #[derive(Debug)]
 pub enum Keyspace {
-    /// By a hash of the key, or of the part of it that stands in braces: keys that begin alike are spread.
+    /// By a hash of the key, or of the part of it in braces. Keys that begin alike are spread.
     Hash {
         /// The number of shards.
         shards: u16,
     },
-    /// By the proved layout: a shard has all keys from its bound on, up to the next one.
+    /// By the proved layout: a shard has all keys from its bound on, up to the bound of the next shard.
     Ranges(Layout),
 }
 
-/// By what rule keys are given to shards, of which each thread makes its keyspace.
+/// The rule that assigns keys to shards. Each thread makes its keyspace from it.
 #[derive(Clone, Debug, PartialEq, Eq)]
 pub enum Rule {
     /// By hash, to so many shards.
     Hash(u16),
-    /// By the ranges that begin at these bounds.
+    /// By ranges that begin at these bounds.
     Bounds(Vec<Vec<u8>>),
 }
 
 impl Rule {
-    /// The number of shards.
+    /// Returns the number of shards.
     pub fn shards(&self) -> u16 {
         match self {
             Rule::Hash(shards) => *shards,
@@ -33,7 +33,7 @@ impl Rule {
         }
     }
 
-    /// The word for it.
+    /// Returns the rule's name.
     pub fn name(&self) -> &'static str {
         match self {
             Rule::Hash(_) => "hash",
@@ -43,7 +43,7 @@ impl Rule {
 }
 
 impl Keyspace {
-    /// The keyspace of this rule.
+    /// Makes the keyspace of this rule.
     pub fn new(rule: &Rule) -> Result<Keyspace, LayoutFault> {
         match rule {
             Rule::Hash(shards) => Ok(Keyspace::Hash { shards: *shards }),
@@ -51,7 +51,7 @@ impl Keyspace {
         }
     }
 
-    /// The number of shards.
+    /// Returns the number of shards.
     pub fn shards(&self) -> u16 {
         match self {
             Keyspace::Hash { shards } => *shards,
@@ -60,7 +60,7 @@ impl Keyspace {
         }
     }
 
-    /// The shard of the key.
+    /// Returns the shard of the key.
     #[inline]
     pub fn shard_of(&self, key: &[u8]) -> u16 {
         match self {
@@ -69,7 +69,8 @@ impl Keyspace {
         }
     }
 
-    /// The shards that may have keys from `low` on and below `high`, in the order of their keys where there is one.
+    /// Returns the shards that may have keys from `low` on and below `high`. If shards are ordered, they are in the
+    /// order of their keys.
     pub fn shards_within(&self, low: &[u8], high: Option<&[u8]>) -> std::ops::RangeInclusive<u16> {
         match self {
             Keyspace::Hash { shards } => 0..=shards - 1,
@@ -80,13 +81,13 @@ impl Keyspace {
         }
     }
 
-    /// Whether each shard's keys lie below those of the next one.
+    /// Returns whether each shard's keys lie below those of the next one.
     pub fn is_ordered(&self) -> bool {
         matches!(self, Keyspace::Ranges(_))
     }
 }
 
-/// The last shard that may have keys below this one, which isn't empty.
+/// Returns the last shard that may have keys below this one, which isn't empty.
 fn last_below(layout: &Layout, high: &[u8]) -> u16 {
     let shard = layout.shard_of(high);
     match layout.range(shard) {
@@ -95,17 +96,17 @@ fn last_below(layout: &Layout, high: &[u8]) -> u16 {
     }
 }
 
-/// The remainder of the hash by so many shards.
+/// Returns the remainder of the hash by so many shards.
 fn remainder(hash: u64, shards: u16) -> u16 {
-    // Of a power of two, as most counts are, it takes no division.
+    // A power of two, as most counts are, takes no division.
     match shards.is_power_of_two() {
         true => hash as u16 & (shards - 1),
         false => (hash % u64::from(shards)) as u16,
     }
 }
 
-/// The hash of the part of the key that says where it is. The key's own is made while braces are looked for, as most
-/// keys have none.
+/// Returns the hash of the key's tag. The hash of the whole key is made while the function looks for braces, because
+/// most keys have none.
 fn hash_of_tag(key: &[u8]) -> u64 {
     let mut found = 0;
     let hash_of_key = hash(key, |word| found |= braces_in(word));
@@ -115,17 +116,17 @@ fn hash_of_tag(key: &[u8]) -> u64 {
     }
 }
 
-/// A number that isn't 0 where one of the eight bytes is a brace that opens.
+/// Returns a number that isn't 0 if one of the eight bytes is an opening brace.
 fn braces_in(word: u64) -> u64 {
     const ONES: u64 = u64::from_ne_bytes([1; 8]);
     const BRACES: u64 = u64::from_ne_bytes([b'{'; 8]);
-    // A byte that is a brace is 0 here, and by the subtraction gets its highest bit.
+    // A byte that is a brace is 0 here, and the subtraction sets its highest bit.
     let other = word ^ BRACES;
     other.wrapping_sub(ONES) & !other & ONES << 7
 }
 
-/// The part of the key in its first braces, where that isn't empty, and else the whole key, as in Redis Cluster: keys
-/// with one tag are of one shard.
+/// Returns the part of the key in its first braces. If that is empty or missing, returns the whole key, as in Redis
+/// Cluster. So keys with the same tag are of the same shard.
 fn tag_of(key: &[u8]) -> &[u8] {
     let Some(open) = key.iter().position(|it| *it == b'{') else {
         return key;
@@ -137,8 +138,8 @@ fn tag_of(key: &[u8]) -> &[u8] {
     }
 }
 
-/// A sum of the bytes, eight at a time, in which each bit of the key changes about half of the bits. The closure has a
-/// look at each eight bytes too, the last of which may be filled up with zeros.
+/// Returns a hash of the bytes, eight at a time, in which each bit of the key changes about half of the bits. The
+/// closure sees each eight bytes, too. The last of these may be filled up with zeros.
 #[inline(always)]
 fn hash(bytes: &[u8], mut look: impl FnMut(u64)) -> u64 {
     const ODD: u64 = 0x9e37_79b9_7f4a_7c15;

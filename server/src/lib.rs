@@ -1,9 +1,11 @@
-//! A server that Redis clients talk to. It owns sockets, threads and queues, and decides nothing about who executes:
-//! each such decision is a call of the proved library (crate `durkenzo`).
+//! A server for Redis clients. It owns sockets, threads and queues, but it doesn't decide who executes a request: each
+//! such decision is a call of proved code. For data in memory that is a board of crate `durkenzo`, and over a store a
+//! proved server that crate `durkenzo_driver` runs.
 //!
-//! A request goes through it so: a thread of [`io`] reads it by [`resp`], [`command`] says of which shard its keys are,
-//! [`admission`] comes to that shard's body as whichever server the board admits, and [`body`] does it. [`control`]
-//! moves shards and restarts servers meanwhile, on a thread of its own, and [`http`] shows them.
+//! A request to data in memory takes this way: a thread of [`io`] reads it with [`resp`], [`command`] finds the shard
+//! of its keys, [`admission`] gets access to that shard's body as the server that the board admits, and [`body`] does
+//! the request. Over a store [`command`] gives the request to the driver, which answers later. Meanwhile [`control`]
+//! moves shards and restarts servers, on its own thread, and [`http`] shows them.
 #![deny(unsafe_code)]
 #![warn(missing_docs)]
 pub mod admission;
@@ -15,6 +17,7 @@ pub mod cluster;
 pub mod command;
 pub mod configuration;
 pub mod control;
+mod departure;
 pub mod descriptors;
 pub mod domains;
 pub mod dump;
@@ -26,6 +29,7 @@ pub mod keep_alive;
 pub mod keyspace;
 pub mod log;
 pub mod main_thread;
+pub mod membership;
 pub mod memory;
 pub mod metric;
 pub mod observer;
@@ -40,13 +44,14 @@ pub mod settings;
 pub mod snapshot;
 pub mod stats;
 pub mod storage;
+pub mod unready;
 pub mod wait;
 pub mod works;
 
-/// What the program calls itself.
+/// The name of the program.
 pub const NAME: &str = "durkenzo-server";
 
-/// The version, which tells of a library that wasn't proved.
+/// The version, which says so if the library wasn't proved.
 pub const VERSION: &str = if durkenzo::IS_PROVED {
     env!("CARGO_PKG_VERSION")
 } else {

@@ -1,5 +1,6 @@
-//! What the thread of `main` does once the others run.
+//! The work of the main thread once the other threads run.
 use crate::cluster::Cluster;
+use crate::departure::Departure;
 use crate::http;
 use crate::memory::{Trimmer, CEILING};
 use crate::run::BoxError;
@@ -13,7 +14,7 @@ use tokio::signal::unix::{signal, Signal, SignalKind};
 
 /// Serves the page, and waits for a signal that ends the server.
 ///
-/// From when it is made a signal ends no process at once: one that came before [`MainThread::run`] is met there.
+/// Once it is made, a signal no longer ends the process at once: [`MainThread::run`] handles a signal that came before.
 pub struct MainThread {
     runtime: Runtime,
     terminate: Signal,
@@ -26,7 +27,7 @@ impl MainThread {
     ///
     /// # Errors
     ///
-    /// Where the system refuses what it waits by.
+    /// If the system refuses the means to wait for signals.
     pub fn new() -> io::Result<MainThread> {
         let runtime = Builder::new_current_thread().enable_all().build()?;
         let (terminate, interrupt) = {
@@ -44,11 +45,11 @@ impl MainThread {
         })
     }
 
-    /// Takes this address for the page: who asks there waits until [`MainThread::run`].
+    /// Reserves this address for the page. Clients that connect wait until [`MainThread::run`].
     ///
     /// # Errors
     ///
-    /// Where it is taken, or isn't this machine's.
+    /// If it is taken, or isn't an address of this machine.
     pub fn bind_page(&mut self, address: SocketAddr) -> Result<(), BoxError> {
         let told = |error| format!("{address}: {error}; --http-port takes another port");
         let bound = self.runtime.block_on(TcpListener::bind(address));
@@ -56,12 +57,13 @@ impl MainThread {
         Ok(())
     }
 
-    /// Serves the page, if it has an address, until a signal comes, or a thread of the cluster or its store ends.
+    /// Serves the page, if it has an address, until a signal comes, or until a thread of the cluster or its store ends.
+    /// After SIGTERM the server first gives its shards away, unless another signal comes.
     ///
     /// # Errors
     ///
-    /// Where the page can't be served, or no signal ended it.
-    pub fn run(self, cluster: &Arc<Cluster>) -> Result<(), BoxError> {
+    /// If the page can't be served, or no signal ended it.
+    pub(crate) fn run(self, cluster: &Arc<Cluster>, departure: Departure) -> Result<(), BoxError> {
         let MainThread {
             runtime,
             mut terminate,
@@ -74,12 +76,22 @@ impl MainThread {
                 Some(listener) => http::serve(cluster.clone(), listener).await,
             }
         };
+        let stopped = async {
+            tokio::select! {
+                _ = interrupt.recv() => return,
+                _ = terminate.recv() => {}
+            }
+            tokio::select! {
+                () = departure.give_shards_away(cluster) => {}
+                _ = terminate.recv() => {}
+                _ = interrupt.recv() => {}
+            }
+        };
         runtime.block_on(async {
             tokio::select! {
                 ended = site => return ended,
                 ended = ended(cluster) => return ended,
-                _ = terminate.recv() => {}
-                _ = interrupt.recv() => {}
+                () = stopped => {}
             }
             tracing::info!("stopping");
             Ok(())
@@ -87,7 +99,7 @@ impl MainThread {
     }
 }
 
-/// Waits for the end of a thread or of the store, and looks meanwhile after memory.
+/// Waits for the end of a thread or of the store, and looks after memory meanwhile.
 async fn ended(cluster: &Cluster) -> Result<(), BoxError> {
     let mut trimmer = Trimmer::default();
     let mut tick = tokio::time::interval(Duration::from_millis(200));

@@ -1,23 +1,25 @@
-//! The numbers that a process tells. `/metrics` and INFO both go through [`all`].
+//! The numbers that a process reports. `/metrics` and INFO both go through [`all`].
 use crate::cluster::Cluster;
 use crate::log;
 use crate::memory::{resident, used, CEILING};
 use crate::stats::{Stats, OF_THREADS};
 use crate::works::Peers;
 use durkenzo_driver::Durable;
+use durkenzo_store::StoreCounts;
+use std::time::Instant;
 
-/// A number that a process tells: what it is called, and where it is read.
+/// A number that a process reports: its name, and its source.
 #[derive(Debug)]
 pub struct Metric {
-    /// What INFO calls the number. `/metrics` adds `durkenzo_`, and `_total` to a counter.
+    /// The number's name in INFO. `/metrics` adds `durkenzo_`, and `_total` to a counter.
     pub name: &'static str,
-    /// What the number counts.
+    /// The meaning of the number.
     pub help: &'static str,
     /// How the number changes.
     pub kind: MetricKind,
-    /// Where INFO has it.
+    /// The number's place in INFO.
     pub info: Info,
-    /// Where it is read.
+    /// The number's source.
     pub source: Source,
 }
 
@@ -26,11 +28,11 @@ pub struct Metric {
 pub enum MetricKind {
     /// It only grows while the process runs.
     Counter,
-    /// It grows and falls.
+    /// It rises and falls.
     Gauge,
 }
 
-/// Where INFO has a number.
+/// The place of a number in INFO.
 #[derive(Clone, Copy, Debug, PartialEq, Eq)]
 pub enum Info {
     /// In this section, by the metric's name.
@@ -46,27 +48,29 @@ pub enum Info {
 pub enum Section {
     /// The process.
     Server,
-    /// Who is connected.
+    /// The connected clients.
     Clients,
-    /// Bytes of memory, which are told for people too.
+    /// Bytes of memory, which are also written for people to read.
     Memory,
-    /// What lies in the store.
+    /// The data in the store.
     Persistence,
-    /// What the threads did.
+    /// The work of the threads.
     Stats,
     /// This process and the others of its cluster.
     Cluster,
 }
 
-/// Where a number is read.
+/// The source of a number.
 #[derive(Debug)]
 pub enum Source {
-    /// Each thread has one. INFO tells their sum.
+    /// Each thread has one. INFO reports their sum.
     Thread(fn(&Stats) -> u64),
     /// The process has one.
     Process(fn(&Cluster) -> u64),
     /// A process with a store has one.
     Store(fn(&Durable) -> u64),
+    /// A process with a store has one, about its own transactions.
+    Sent(fn(&StoreCounts) -> u64),
     /// A process of a cluster has one.
     Peers(fn(&Peers) -> u64),
 }
@@ -89,7 +93,7 @@ impl Metric {
         }
     }
 
-    /// Makes the row of a number that grows and falls.
+    /// Makes the row of a number that rises and falls.
     pub const fn gauge(
         name: &'static str,
         help: &'static str,
@@ -129,12 +133,13 @@ impl Metric {
             Source::Thread(of) => Some(cluster.inlets().iter().map(|it| of(it.stats())).sum()),
             Source::Process(of) => Some(of(cluster)),
             Source::Store(of) => cluster.storage.durable().map(|it| of(it)),
+            Source::Sent(of) => cluster.storage.counts().map(of),
             Source::Peers(of) => cluster.storage.peers().map(|it| of(it)),
         }
     }
 }
 
-/// Returns all rows, each section's in the order in which INFO tells them.
+/// Returns all rows, each section's in INFO's order.
 pub fn all() -> impl Iterator<Item = &'static Metric> {
     OF_THREADS.iter().chain(&OF_PROCESSES)
 }
@@ -145,8 +150,14 @@ const KEPT: &str =
 const CLIENTS: &str =
     "Clients whose last request is kept, at the shard that keeps most: 131072 are a full one";
 
+/// Returns whether the process has a lease by its clock. Without a lease it knows nothing of the others, because its
+/// knowledge may be out of date.
+fn is_leased(peers: &Peers) -> bool {
+    peers.member().lease_left().is_some()
+}
+
 /// The numbers that a process has once.
-static OF_PROCESSES: [Metric; 18] = [
+static OF_PROCESSES: [Metric; 23] = [
     Metric::gauge(
         "uptime_seconds",
         "Seconds since the start",
@@ -184,28 +195,65 @@ static OF_PROCESSES: [Metric; 18] = [
         Source::Store(|it| it.clients_kept() as u64),
     ),
     Metric::gauge(
+        "store_silent_seconds",
+        "Seconds since the store answered anything",
+        Info::Own(Section::Persistence),
+        Source::Sent(|it| it.silence(Instant::now()).as_secs()),
+    ),
+    Metric::gauge(
+        "store_full",
+        "Whether the store had no room for the last write that it judged",
+        Info::Own(Section::Persistence),
+        Source::Sent(|it| u64::from(it.is_full())),
+    ),
+    Metric::counter(
+        "store_written_bytes",
+        "Bytes of keys and values that transactions wrote",
+        Info::Own(Section::Persistence),
+        Source::Sent(StoreCounts::bytes_written),
+    ),
+    Metric::gauge(
+        "shards_unread",
+        "Shards that this process was to read last and couldn't, so that what comes to them waits",
+        Info::Own(Section::Persistence),
+        Source::Store(|it| it.unread_count() as u64),
+    ),
+    Metric::gauge(
         "lease_kept",
-        "Whether this process has a lease",
+        "Whether this process has a lease that hasn't ended by its clock",
         Info::Own(Section::Cluster),
-        Source::Peers(|it| u64::from(it.member().lease().is_some())),
+        Source::Peers(|it| u64::from(is_leased(it))),
+    ),
+    Metric::gauge(
+        "lease_left_milliseconds",
+        "How much time is left of this process's lease, as it was kept last",
+        Info::Own(Section::Cluster),
+        Source::Peers(|it| {
+            it.member()
+                .lease_left()
+                .map_or(0, |it| it.as_millis() as u64)
+        }),
     ),
     Metric::gauge(
         "leads",
-        "Whether this process leads",
+        "Whether this process leads, and its lease is kept",
         OF_LEADER,
-        Source::Peers(|it| u64::from(it.leader() == Some(it.member().server()))),
+        Source::Peers(|it| u64::from(is_leased(it) && it.leader() == Some(it.member().server()))),
     ),
     Metric::gauge(
         "led",
-        "Whether a process leads",
+        "Whether this process sees one that leads, while its own lease is kept",
         OF_LEADER,
-        Source::Peers(|it| u64::from(it.leader().is_some())),
+        Source::Peers(|it| u64::from(is_leased(it) && it.leader().is_some())),
     ),
     Metric::gauge(
         "servers_there",
-        "Servers whose process is there",
+        "Servers whose process this one sees, while its own lease is kept",
         Info::Own(Section::Cluster),
-        Source::Peers(|it| it.member().members().len() as u64),
+        Source::Peers(|it| match is_leased(it) {
+            true => it.member().members().len() as u64,
+            false => 0,
+        }),
     ),
     Metric::gauge(
         "processes_reached",

@@ -1,4 +1,4 @@
-//! Who looks at how servers and shards stand.
+//! The observer of servers and shards.
 use crate::cluster::Cluster;
 use crate::snapshot::{ProcessStatus, ServerStatus, ShardStatus, Snapshot};
 use crate::storage::{BoardRecords, Storage};
@@ -8,22 +8,22 @@ use durkenzo_driver::{Durable, ServerState};
 use std::fmt;
 use std::sync::Arc;
 
-/// Looks at a cluster.
+/// Observes the servers and shards of a cluster.
 pub struct Observer {
     cluster: Arc<Cluster>,
     records: Records,
 }
 
-/// Where records are seen.
+/// The source of records.
 enum Records {
     /// On the board in memory.
     Board(BoardRecords),
-    /// In the store, as they were seen there last.
+    /// The store, as the records were seen there last.
     Store(Arc<Durable>),
 }
 
 impl Observer {
-    /// One of this cluster.
+    /// Makes the observer of this cluster.
     ///
     /// # Errors
     ///
@@ -37,8 +37,8 @@ impl Observer {
         Ok(Observer { cluster, records })
     }
 
-    /// Looks at the board that took the place of the one before, if one did. Until then that one is kept, with all that
-    /// its shards hold.
+    /// Looks at the new board, if one has replaced the old one. Until then the old board is kept, with all the contents
+    /// of its shards.
     pub fn renew(&mut self) {
         match &mut self.records {
             Records::Board(board) => board.renew(),
@@ -50,7 +50,7 @@ impl Observer {
     ///
     /// # Errors
     ///
-    /// There is no such shard, or the store hasn't told its record yet.
+    /// If there is no such shard, or the store hasn't told its record yet.
     pub fn record(&mut self, shard: u16) -> Result<Record, UnknownShard> {
         match &mut self.records {
             Records::Board(board) => board.record(shard),
@@ -61,21 +61,21 @@ impl Observer {
         }
     }
 
-    /// The generations of all shards.
+    /// Returns the generations of all shards.
     pub fn generations(&mut self) -> Vec<u64> {
         let shards = 0..self.cluster.shards();
         let of = |it| self.record(it).map_or(0, |it| it.generation);
         shards.map(of).collect()
     }
 
-    /// How the shard stands, if there is one.
+    /// Returns the state of the shard, if there is one.
     pub fn shard(&mut self, shard: u16) -> Option<ShardStatus> {
         let record = self.record(shard).ok()?;
         let keys = self.cluster.storage.keys(shard);
         Some(ShardStatus::new(shard, record, keys))
     }
 
-    /// How all stands, each record at a moment of its own.
+    /// Returns the state of everything. Each record is seen at its own moment.
     pub fn snapshot(&mut self) -> Snapshot {
         let shards = 0..self.cluster.shards();
         let shards: Vec<_> = shards.filter_map(|it| self.shard(it)).collect();
@@ -89,7 +89,7 @@ impl Observer {
         }
     }
 
-    /// How far the server's restart has come. Of several processes only the one that leads knows more than whether
+    /// Returns how far the server's restart has come. Among several processes only the leader knows more than whether
     /// requests reach it.
     fn standing(&self, server: u16) -> Option<ServerState> {
         let standing = self.cluster.presence.state(server)?;
@@ -112,7 +112,7 @@ impl Observer {
         ServerStatus {
             server,
             standing: self.standing(server).map_or("unknown", |it| it.name()),
-            domain: self.cluster.configuration.domains.domain_of(server),
+            domain: self.cluster.presence.domain_of(server),
             shards: shards.iter().filter(|it| it.owner == server).count(),
             admissions: self.cluster.storage.has_counts().then(|| admissions.sum()),
             doing: doing.map(|it| it.to_string()),
@@ -121,7 +121,7 @@ impl Observer {
     }
 }
 
-/// How the server's process stands, as this one sees it.
+/// Returns the state of the server's process, as this one sees it.
 fn process(peers: &Peers, server: u16) -> ProcessStatus {
     let members = peers.member().members();
     let live = members.get(&server);

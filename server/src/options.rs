@@ -17,12 +17,11 @@ const LOG: &str = "Log";
 const PROVED: &str =
     "In the repository ./sm serve takes --proved too: it proves the library first, where that wasn't done.";
 
-/// A server that Redis clients talk to. Its data lies in memory alone, unless --data names a folder, or
-/// --etcd the members of etcd.
+/// A server for Redis clients. Its data is in memory only, unless --data names a folder, or --etcd the members of etcd.
 ///
-/// Each key is of a shard, and each shard is executed by one of several servers, which are all in this
-/// process, or with --etcd each in one of its own. Servers restart in turn, and shards move between them:
-/// `redis-cli -p 7379 sm help` tells how.
+/// Each key belongs to a shard, and each shard is executed by one of several servers. These are all in this process,
+/// or, with --etcd, each in its own. Servers restart in turn, and shards move between them: `redis-cli -p 7379 sm help`
+/// tells how.
 #[derive(Clone, Debug, Parser)]
 #[command(
     name = NAME,
@@ -37,19 +36,19 @@ pub struct Options {
     #[arg(long, value_name = "ADDRESS", default_value = "127.0.0.1", help_heading = NETWORK)]
     pub bind: IpAddr,
 
-    /// Port for Redis clients; 0 takes a free one, which the log tells
+    /// Port for Redis clients; 0 takes a free one, which is logged
     #[arg(long, value_name = "PORT", default_value_t = 7379, help_heading = NETWORK)]
     pub port: u16,
 
-    /// Port of the page, /metrics and /healthz, which ask for no password; 0 is none
+    /// Port of the page, /metrics, /live and /ready, which ask for no password; 0 means none
     #[arg(long, value_name = "PORT", default_value_t = 7380, help_heading = NETWORK)]
     pub http_port: u16,
 
-    /// Their address [default: as --bind, but 127.0.0.1 if clients need a password and no certificate]
+    /// Address of the page [default: as --bind, but 127.0.0.1 if clients need a password and no certificate]
     #[arg(long, value_name = "ADDRESS", help_heading = NETWORK)]
     pub http_bind: Option<IpAddr>,
 
-    /// Most connections at a time, 1 or more; fewer where the system lets the process have fewer files open
+    /// Most connections at a time, at least 1; fewer if the system lets the process open fewer files
     #[arg(
         long,
         value_name = "COUNT",
@@ -59,11 +58,11 @@ pub struct Options {
     )]
     pub max_clients: u32,
 
-    /// Who may reach it, and what they may do
+    /// Who may connect, and what they may do
     #[command(flatten)]
     pub safety: SafetyOptions,
 
-    /// File with settings as scripts take them, whose capacities, groups and caps bind too [default: none]
+    /// Settings file in the form of scripts, whose capacities, groups and caps also apply [default: none]
     #[arg(
         long,
         value_name = "FILE",
@@ -82,7 +81,7 @@ pub struct Options {
     )]
     pub servers: u16,
 
-    /// Number of domains, in which servers take turns; of each one may be away [default: as servers]
+    /// Number of domains, to which servers are assigned in turn; one server of each may be away [default: as servers]
     #[arg(
         long,
         value_name = "COUNT",
@@ -95,7 +94,7 @@ pub struct Options {
     #[arg(long, value_name = "COUNT", default_value_t = 1, help_heading = SHARDS)]
     pub restarts: u16,
 
-    /// Number of shards, 1 to 4096, where keys go to them by hash
+    /// Number of shards, 1 to 4096, if keys go to them by hash
     #[arg(
         long,
         value_name = "COUNT",
@@ -106,10 +105,10 @@ pub struct Options {
     )]
     pub shards: u16,
 
-    /// Number of ranges of keys, even from a to z, each a shard [default: none]
+    /// Number of key ranges, even from a to z, each a shard [default: none]
     ///
-    /// Neighbours are of one shard, which transactions want, and SCANRANGE asks few
-    /// shards. But keys that begin alike, as those of one program do, are all of one shard.
+    /// Neighbours are in one shard, as transactions need it, and SCANRANGE asks few shards. But keys that begin alike,
+    /// like those of one program, are all in one shard.
     #[arg(
         long,
         value_name = "COUNT",
@@ -124,28 +123,28 @@ pub struct Options {
     #[arg(long, value_name = "KEY,..", value_delimiter = ',', help_heading = SHARDS)]
     pub bounds: Vec<String>,
 
-    /// Keys go to shards by hash, also where ranges are given, of which there are as many
+    /// Keys go to shards by hash, even if ranges are given; there are as many shards as ranges
     ///
-    /// It is so where neither ranges, bounds nor settings are given. Keys that begin alike are spread, and
-    /// keys with one {tag} are of one shard. SCANRANGE gives the same, in order, and asks all shards.
+    /// This is the default if neither ranges, bounds nor settings are given. Keys that begin alike are spread, and keys
+    /// with the same {tag} are in one shard. SCANRANGE returns the same, in order, but asks all shards.
     #[arg(long, help_heading = SHARDS, verbatim_doc_comment)]
     pub hash: bool,
 
-    /// Nobody owns a shard at the start, until SM ASSIGN or SM PLACE; else servers take turns
+    /// No shard has an owner at the start, until SM ASSIGN or SM PLACE; otherwise servers take turns
     #[arg(long, help_heading = SHARDS)]
     pub vacant: bool,
 
     /// Folder in which data outlives the process [default: none]
     ///
-    /// It is made where there is none, and is of the shards and servers with which it was made.
+    /// If there is no folder, it is made. It keeps the shards and servers with which it was made.
     #[arg(long, value_name = "FOLDER", help_heading = DATA)]
     pub data: Option<PathBuf>,
 
-    /// When what was answered is on the disk: always before that, within a second, or when the system writes it
+    /// When an answered write is on the disk: always before the answer, within a second, or when the system writes it
     #[arg(long, value_name = "always|second|no", default_value = "always", requires = "data", help_heading = DATA)]
     pub sync: Sync,
 
-    /// Batches of a shard's log at most before a base stands for them, from which the next start begins
+    /// Most batches of a shard's log before a base replaces them; the next start reads from the base
     #[arg(
         long,
         value_name = "COUNT",
@@ -156,7 +155,7 @@ pub struct Options {
     )]
     pub log_batches: u64,
 
-    /// Bytes of memory above which commands that may have data take more are refused, as 100mb; 0 is none
+    /// Bytes of memory above which commands are refused whose data may take more, as 100mb; 0 means no limit
     #[arg(long, value_name = "BYTES", default_value_t = Bytes(0), help_heading = DATA)]
     pub max_memory: Bytes,
 
@@ -177,16 +176,16 @@ pub struct Options {
     )]
     pub threads: Option<u16>,
 
-    /// How long a thread polls for requests before it sleeps, where they came soon lately and it answers sooner so; 0
-    /// is not at all
+    /// How long a thread polls for requests before it sleeps, if they came soon lately and polling answers sooner; 0
+    /// means not at all
     #[arg(long, value_name = "MICROSECONDS", default_value_t = 50, help_heading = THREADS)]
     pub busy_poll: u64,
 
-    /// Tries of a shard that another thread has, before other connections have their turn
+    /// Tries to get a shard that another thread has, before other connections have their turn
     #[arg(long, value_name = "COUNT", default_value_t = 64, help_heading = THREADS)]
     pub spins: u32,
 
-    /// How long a command waits for a shard that is paused, before it is refused
+    /// How long a command waits for a paused shard before it is refused
     #[arg(long, value_name = "MILLISECONDS", default_value_t = 1_000, help_heading = THREADS)]
     pub wait: u64,
 
@@ -194,11 +193,12 @@ pub struct Options {
     #[arg(long, value_name = "MILLISECONDS", default_value_t = 0, help_heading = THREADS)]
     pub pace: u64,
 
-    /// How long a stop takes at most, while clients send, or read what they were answered
+    /// The most time that a stop takes while clients send, or read their answers; with --etcd shards go to others for
+    /// as long before
     #[arg(long, value_name = "MILLISECONDS", default_value_t = 2_000, help_heading = THREADS)]
     pub grace: u64,
 
-    /// Least level that is logged: error, warn, info, debug, trace; or filters of tracing
+    /// Least level to log: error, warn, info, debug, trace; or filters of tracing
     #[arg(long, value_name = "LEVEL", default_value = "info", help_heading = LOG)]
     pub log: String,
 

@@ -1,7 +1,7 @@
-//! Bytes as numbers, which are compared and mixed by one step.
+//! Bytes packed into numbers, which are compared and mixed in one step.
 
-/// Up to eight bytes as a number of which the first is the lowest byte, and 0 stands where there is none; of more bytes
-/// the first eight.
+/// Packs up to eight bytes into a number. The first byte is the lowest one, and missing bytes are 0. Of more bytes it
+/// takes the first eight.
 #[inline]
 pub const fn packed(bytes: &[u8]) -> u64 {
     match *bytes {

@@ -1,4 +1,4 @@
-//! The passes by which a thread comes to the shards of the board in memory.
+//! The passes with which a thread gets access to the shards of the board in memory.
 use crate::body::BoxedBody;
 use crate::cluster::Cluster;
 use crate::stats::Stats;
@@ -8,21 +8,21 @@ use durkenzo::{AdmitFault, Mode, Pass, PassFault, Permit, Record, MOST_HOPS};
 use std::fmt;
 use std::sync::Arc;
 
-/// How often a thread looks for a shard's server beside its spins.
+/// How often a thread looks for a shard's server, beside its spins.
 const MOST_TURNS: u32 = 8;
 
-/// The server that a request is for, and how it came there.
+/// The server to which a request goes, and how it got there.
 #[derive(Clone, Copy, Debug)]
 pub(crate) struct RequestTarget {
     server: u16,
     mode: Mode,
     hops: u8,
-    /// Whether the request is for this server alone and whom it forwards to.
+    /// Whether the request may go only to this server and to the one that it forwards to.
     is_fixed: bool,
 }
 
 impl RequestTarget {
-    /// One for a request that comes from a client.
+    /// Makes the target of a request that comes from a client.
     pub(crate) fn direct(server: u16, is_fixed: bool) -> RequestTarget {
         let (mode, hops) = (Mode::Direct, 0);
         RequestTarget {
@@ -34,14 +34,15 @@ impl RequestTarget {
     }
 }
 
-/// A thread's passes, one of each server that is reached, and where it sends requests.
+/// A thread's passes, one for each server that requests reach, and the servers to which it sends requests.
 pub(crate) struct Passes {
     cluster: Arc<Cluster>,
     memory: Arc<InMemory>,
     stats: Arc<Stats>,
-    /// From server 1.
+    /// The passes, from server 1 on.
     passes: Vec<Option<Pass<BoxedBody>>>,
-    /// The server that executed each shard last, as far as this thread knows: an old one is refused, with the record.
+    /// The server that last executed each shard, as far as this thread knows. If that is out of date, the server
+    /// refuses with the record.
     routes: Box<[u16]>,
     version: u64,
     /// How often it looks for a shard's server.
@@ -51,7 +52,7 @@ pub(crate) struct Passes {
 }
 
 impl Passes {
-    /// Those of a thread with these counts, of the board there.
+    /// Makes the passes of a thread with these counters, on this board.
     ///
     /// # Errors
     ///
@@ -75,8 +76,8 @@ impl Passes {
         Ok(passes)
     }
 
-    /// Gives back the passes of servers that aren't reached any more, and takes those of servers that are back. Returns
-    /// the version of their presence since which that is so.
+    /// Gives back the passes of servers that requests don't reach any more, and takes passes of servers that are back.
+    /// Returns the version of the servers' presence to which the passes belong.
     pub(crate) fn refresh(&mut self) -> Result<u64, PassFault> {
         if self.version != self.cluster.presence.version() {
             self.renew()?;
@@ -99,7 +100,7 @@ impl Passes {
         Ok(())
     }
 
-    /// Counts commands that were done under the last permit, so many of which were answered by an error.
+    /// Counts the commands that were done under the last permit, and how many of them were answered with an error.
     pub(crate) fn note_done(&self, commands: u64, errors: u64) {
         let server = &self.stats.servers[self.executed_by];
         let mut done = commands;
@@ -110,14 +111,14 @@ impl Passes {
         server.done.add(done);
     }
 
-    /// Returns where a request to the shard is sent first: to the server that executed it last.
+    /// Returns the server to which a request for the shard is sent first: the one that executed it last.
     #[inline]
     pub(crate) fn target(&self, shard: u16) -> RequestTarget {
         RequestTarget::direct(self.routes[usize::from(shard)], false)
     }
 
-    /// Has the closure work under a permit of the shard, for a request with this target.
-    // Where it is inlined, what the work needs stays in registers.
+    /// Runs the closure under a permit of the shard, for a request with this target.
+    // When this is inlined, the work's variables stay in registers.
     #[inline(always)]
     pub(crate) fn admit<R>(
         &mut self,
@@ -151,8 +152,8 @@ impl Passes {
         Err(NotAdmitted::Wait(Wait::Busy(shard)))
     }
 
-    /// Goes where to try again after a refusal.
-    // Outside of `admit`, so that who is admitted at once keeps nothing for it.
+    /// Chooses the server to try next after a refusal.
+    // This is outside of `admit`, so that a request that is admitted at once keeps nothing for it.
     #[cold]
     #[inline(never)]
     fn after(
@@ -175,7 +176,7 @@ impl Passes {
         }
     }
 
-    /// Goes where another server executes the shard: the one that this one forwards to, or the owner.
+    /// Goes to another server that executes the shard: the one that this one forwards to, or the owner.
     fn along(
         &mut self,
         shard: u16,
@@ -207,7 +208,7 @@ impl Passes {
         }
     }
 
-    /// What a request waits for where nobody executes: whoever asks for the shard is told of an owner that is away.
+    /// Returns the reason to wait if no server executes the shard. A client of the shard is told if its owner is away.
     fn paused(&self, shard: u16, target: &RequestTarget, read: Record) -> NotAdmitted {
         let owner = read.owner().filter(|_| !target.is_fixed);
         let away = owner.filter(|it| !self.cluster.presence.is_reached(*it));
@@ -217,8 +218,8 @@ impl Passes {
         })
     }
 
-    /// Goes elsewhere than to a server that isn't reached: to the owner, if that is another one. The owner can only
-    /// forward to the one that executes.
+    /// Avoids a server that requests don't reach: goes to the owner, if that is another server. The owner can only
+    /// forward to the executor.
     #[cold]
     #[inline(never)]
     fn around(&mut self, shard: u16, target: &mut RequestTarget) -> Result<(), NotAdmitted> {

@@ -1,10 +1,11 @@
-//! How the server begins and ends.
+//! The start and the end of the server.
 use crate::admission::Admission;
 use crate::cluster::Cluster;
 use crate::command::Executor;
 use crate::configuration::Configuration;
 use crate::control::{Asked, Backend, Campaigner, Controller};
 use crate::control::{ClusterHost, MemoryBackend, StoreBackend, MOST_ASKED};
+use crate::departure::Departure;
 use crate::descriptors::{Descriptors, Needs};
 use crate::io::{Acceptor, Handshaker, Inlet, Worker};
 use crate::join::Joined;
@@ -23,29 +24,30 @@ use std::sync::mpsc::{sync_channel, Receiver, SyncSender};
 use std::sync::Arc;
 use std::thread::{self, JoinHandle};
 
-/// Why the server doesn't begin, or ended early.
+/// Why the server doesn't start, or ended early.
 pub type BoxError = Box<dyn Error + Send + Sync>;
 
-/// A thread that runs.
+/// A running thread.
 type Running = JoinHandle<Result<(), BoxError>>;
 
-/// Threads for clients where nothing is said, at most.
+/// The most threads for clients by default.
 const MOST_USUAL_THREADS: usize = 4;
 
 /// Serves until a signal ends it.
 pub fn run(options: &Options) -> Result<(), BoxError> {
     CEILING.set(options.max_memory.0);
     let mut main_thread = MainThread::new()?;
-    let configuration = fitted(options)?;
+    let mut configuration = Configuration::of(options)?;
     let address = SocketAddr::new(options.bind, options.port);
     let told = |error| format!("{address}: {error}; --port takes another port");
     let listener = Acceptor::bind(address).map_err(told)?;
-    // A process joins others once nothing of this machine keeps it from serving.
+    // A process joins others only when nothing on this machine keeps it from serving.
     if options.http_port > 0 {
         let address = page_address(options, &configuration.safety);
         main_thread.bind_page(SocketAddr::new(address, options.http_port))?;
     }
-    let joined = joined(options, &configuration, listener.local_addr()?)?;
+    let joined = joined(options, &mut configuration, listener.local_addr()?)?;
+    configuration.fit(Descriptors::raised(needs(options, &configuration)));
     let storage = storage(options, &configuration, joined.as_ref())?;
     let cluster = Arc::new(Cluster::new(configuration, storage));
     let (control, asked) = sync_channel(MOST_ASKED);
@@ -57,7 +59,7 @@ pub fn run(options: &Options) -> Result<(), BoxError> {
     let mut threads = workers(&cluster, polls, &control)?;
     let begin = |it: Joined| it.begin(&cluster, control.clone());
     let between = joined.map(begin).transpose()?;
-    drop(control);
+    let departure = Departure::new(control);
     threads.push(spawn(&cluster, "acceptor", move || {
         acceptor.run();
         Ok(())
@@ -66,7 +68,7 @@ pub fn run(options: &Options) -> Result<(), BoxError> {
         controlling();
         Ok(())
     })?);
-    let served = main_thread.run(&cluster);
+    let served = main_thread.run(&cluster, departure);
     cluster.stop();
     waker.wake()?;
     let ended = end(&cluster, threads, between);
@@ -74,37 +76,30 @@ pub fn run(options: &Options) -> Result<(), BoxError> {
     ended.and(served)
 }
 
-/// What the options come to, with no more connections than there are descriptors for.
-fn fitted(options: &Options) -> Result<Configuration, BoxError> {
-    let mut configuration = Configuration::of(options)?;
-    configuration.fit(Descriptors::raised(needs(options, &configuration)));
-    Ok(configuration)
-}
-
-/// Waits until each thread has come to its end, and then leaves the store, and the other processes.
+/// Waits until each thread has ended, and then leaves the store and the other processes.
 fn end(
     cluster: &Cluster,
     threads: Vec<Running>,
     between: Option<JoinHandle<()>>,
 ) -> Result<(), BoxError> {
-    // Nobody but clients asks the control any more.
+    // From here on only clients ask the control.
     cluster.storage.leave_control();
     let ended = threads.into_iter().map(|it| {
         let panicked = |_| Err("a thread panicked".into());
         it.join().unwrap_or_else(panicked)
     });
-    // All are waited for.
+    // All threads are joined.
     let ended = ended.fold(Ok(()), Result::and);
     cluster.storage.stop();
-    // A thread that panicked has said so.
+    // A thread that panicked has logged that.
     let _ = between.map(JoinHandle::join);
     ended
 }
 
-/// The server of a cluster of several processes that this one becomes, where the options say so.
+/// Returns the server of a cluster of several processes that this process becomes, if the options say so.
 fn joined(
     options: &Options,
-    configuration: &Configuration,
+    configuration: &mut Configuration,
     clients: SocketAddr,
 ) -> Result<Option<Joined>, BoxError> {
     let joined = options
@@ -114,7 +109,7 @@ fn joined(
     joined.transpose()
 }
 
-/// Where data lies, as the options say.
+/// Returns the storage that the options choose.
 fn storage(
     options: &Options,
     configuration: &Configuration,
@@ -129,7 +124,7 @@ fn storage(
     })
 }
 
-/// What the thread of the control does: all shards have owners then, unless the options say otherwise.
+/// Returns the work of the control's thread. By then all shards have owners, unless the options say otherwise.
 fn controlling(
     options: &Options,
     cluster: &Arc<Cluster>,
@@ -155,7 +150,8 @@ fn controlling(
     Ok(Box::new(move || controller.run(asked)))
 }
 
-/// Where the page is. It asks for no password: so if clients need one, it is on this machine, unless it is said.
+/// Returns the page's address. The page asks for no password. So if clients need one, the page is on this machine only,
+/// unless an option says otherwise.
 fn page_address(options: &Options, safety: &Safety) -> IpAddr {
     let usual = match options.bind {
         it if it.is_loopback() || !safety.is_by_password_alone() => it,
@@ -165,18 +161,18 @@ fn page_address(options: &Options, safety: &Safety) -> IpAddr {
     options.http_bind.unwrap_or(usual)
 }
 
-/// How many threads there are for clients.
+/// Returns how many threads there are for clients.
 fn threads(options: &Options) -> usize {
     let processors = thread::available_parallelism().map_or(1, usize::from);
-    // One is left to clients, who often run on the same machine.
+    // One processor is left to clients, which often run on the same machine.
     let usual = processors.saturating_sub(1).clamp(1, MOST_USUAL_THREADS);
     options.threads.map_or(usual, usize::from)
 }
 
-/// What descriptors are kept for, beside clients.
+/// Returns the needs for descriptors beside those of clients.
 fn needs(options: &Options, configuration: &Configuration) -> Needs {
     let others = usize::from(configuration.servers).saturating_sub(1);
-    // If clients speak TLS, each thread has one beside it that does their handshakes.
+    // If clients speak TLS, each thread has another one beside it, which does their handshakes.
     let each = 1 + usize::from(configuration.safety.tls.is_some());
     Needs {
         threads: each * threads(options),
@@ -185,7 +181,7 @@ fn needs(options: &Options, configuration: &Configuration) -> Needs {
     }
 }
 
-/// Makes what each thread for clients polls, and has the cluster know what reaches them.
+/// Makes the poll of each thread for clients, and gives the cluster their inlets.
 fn polls(options: &Options, cluster: &Cluster) -> Result<Vec<Poll>, BoxError> {
     let polls = (0..threads(options))
         .map(|_| Poll::new())
@@ -201,7 +197,7 @@ fn polls(options: &Options, cluster: &Cluster) -> Result<Vec<Poll>, BoxError> {
     Ok(polls)
 }
 
-/// Begins the threads for clients, each of which polls one of these.
+/// Starts the threads for clients, each with one of these polls.
 fn workers(
     cluster: &Arc<Cluster>,
     polls: Vec<Poll>,
@@ -221,7 +217,7 @@ fn workers(
     Ok(threads)
 }
 
-/// Has each thread for clients have one beside it that does their handshakes, if they are met by TLS.
+/// If clients speak TLS, starts a thread for handshakes beside each thread for clients.
 fn handshakers(cluster: &Arc<Cluster>) -> Result<Vec<Running>, BoxError> {
     let inlets = cluster.inlets().iter().enumerate();
     let begin = |(number, inlet): (usize, &Arc<Inlet>)| {
@@ -235,7 +231,7 @@ fn handshakers(cluster: &Arc<Cluster>) -> Result<Vec<Running>, BoxError> {
     }
 }
 
-/// Stops the cluster when a thread ends, however it does.
+/// Stops the cluster when a thread ends, for whatever reason.
 struct StopsAtEnd(Arc<Cluster>);
 
 impl Drop for StopsAtEnd {

@@ -1,4 +1,4 @@
-//! Who may reach the server, and what they may do.
+//! Who may connect to the server, and what they may do.
 use crate::run::BoxError;
 use clap::Args;
 use durkenzo_control::links::Secret;
@@ -9,13 +9,13 @@ use std::time::Duration;
 
 const SAFETY: &str = "Safety";
 
-/// How long clients may take where nothing is said, in milliseconds.
+/// The default time in which clients must log in, in milliseconds.
 const USUAL_LOGIN_TIME: u64 = 10_000;
 
-/// The part of the command line that is about safety.
+/// The options about safety.
 #[derive(Args, Clone, Debug)]
 pub struct SafetyOptions {
-    /// File whose first line is the password that clients have to give [default: DURKENZO_PASSWORD, else none]
+    /// File whose first line is the password that clients must give [default: DURKENZO_PASSWORD, else none]
     #[arg(long, value_name = "FILE", help_heading = SAFETY)]
     pub password_file: Option<PathBuf>,
 
@@ -23,7 +23,7 @@ pub struct SafetyOptions {
     #[arg(long, value_name = "FILE", help_heading = SAFETY)]
     pub control_password_file: Option<PathBuf>,
 
-    /// How long a client may take to show who it is, by TLS and a password where they are asked for
+    /// How long a client may take to log in, by TLS and a password if they are required
     #[arg(
         long,
         value_name = "MILLISECONDS",
@@ -33,27 +33,27 @@ pub struct SafetyOptions {
     )]
     pub login_time: u64,
 
-    /// File in PEM with the server's certificate: clients and the page speak TLS alone then [default: none]
+    /// PEM file with the server's certificate; clients and the page then speak only TLS [default: none]
     #[arg(long, value_name = "FILE", requires = "tls_key", help_heading = SAFETY)]
     pub tls_cert: Option<PathBuf>,
 
-    /// File in PEM with its key
+    /// PEM file with its key
     #[arg(long, value_name = "FILE", requires = "tls_cert", help_heading = SAFETY)]
     pub tls_key: Option<PathBuf>,
 
-    /// File in PEM with authorities, of which clients have to show a certificate [default: they need none]
+    /// PEM file with authorities; clients then need a certificate of one of them [default: they need none]
     #[arg(long, value_name = "FILE", requires = "tls_cert", help_heading = SAFETY)]
     pub tls_ca: Option<PathBuf>,
 
-    /// File in PEM with the authority of the cluster's processes, which speak TLS among them then [default: none]
+    /// PEM file with the authority of the cluster's processes, which then speak TLS to each other [default: none]
     #[arg(long, value_name = "FILE", requires_all = ["peer_cert", "peer_key"], help_heading = SAFETY)]
     pub peer_ca: Option<PathBuf>,
 
-    /// File in PEM with this process' certificate of it, for the name peer.durkenzo
+    /// PEM file with this process' certificate from that authority, for the name peer.durkenzo
     #[arg(long, value_name = "FILE", requires = "peer_ca", help_heading = SAFETY)]
     pub peer_cert: Option<PathBuf>,
 
-    /// File in PEM with its key
+    /// PEM file with its key
     #[arg(long, value_name = "FILE", requires = "peer_ca", help_heading = SAFETY)]
     pub peer_key: Option<PathBuf>,
 
@@ -62,29 +62,29 @@ pub struct SafetyOptions {
     pub peer_secret_file: Option<PathBuf>,
 }
 
-/// Who may reach the server, and what they may do: all may do all where nothing is said.
+/// Who may connect to the server, and what they may do. By default everybody may do everything.
 #[derive(Clone, Debug)]
 pub struct Safety {
-    /// What clients have to give first.
+    /// The password that clients must give first.
     pub password: Option<Secret>,
-    /// What they have to give for the role that may change how shards stand.
+    /// The password that they must give for the role that may change shards.
     pub control_password: Option<Secret>,
-    /// How long they may take to show who they are.
+    /// How long they may take to log in.
     pub login_time: Duration,
-    /// How clients are met by TLS.
+    /// The TLS configuration for clients.
     pub tls: Option<ClientsTls>,
-    /// How other processes of the cluster are.
+    /// The TLS configuration for other processes of the cluster.
     pub peer_tls: Option<PeersTls>,
-    /// What these show each other.
+    /// The secret that these show each other.
     pub peer_secret: Option<Secret>,
 }
 
 impl Safety {
-    /// What the options, with the files and variables of the environment that they name, come to.
+    /// Reads the options, with the files and environment variables that they name.
     ///
     /// # Errors
     ///
-    /// Where a file can't be read or hasn't what it should have, each by its name.
+    /// If a file can't be read, or lacks what it should have. The fault names it.
     pub fn of(options: &SafetyOptions) -> Result<Safety, BoxError> {
         let secret = |file: &Option<PathBuf>, variable| Secret::given(file.as_deref(), variable);
         let peer_file = options.peer_secret_file.as_deref();
@@ -110,7 +110,7 @@ impl Safety {
         })
     }
 
-    /// Warns of what a server gives away that others than this machine reach there.
+    /// Warns if other machines can reach a server that gives something away.
     pub fn warn(&self, address: SocketAddr) {
         if self.is_open() {
             tracing::warn!(
@@ -124,11 +124,12 @@ impl Safety {
         }
     }
 
-    /// Judges whether other processes may reach this one there: without a secret or TLS only those on this machine.
+    /// Checks that other processes may connect at this address. Without a secret or TLS, only those on this machine
+    /// may.
     ///
     /// # Errors
     ///
-    /// If others could reach it who know nothing.
+    /// If processes without the secret could connect.
     pub fn may_listen(&self, address: SocketAddr) -> Result<(), String> {
         let is_guarded = self.peer_secret.is_some() || self.peer_tls.is_some();
         match address.ip().is_loopback() || is_guarded {
@@ -141,12 +142,12 @@ impl Safety {
         }
     }
 
-    /// Whether anybody who reaches the server may do what its clients do.
+    /// Returns whether everybody who can connect to the server may do what its clients do.
     pub fn is_open(&self) -> bool {
         self.password.is_none() && !self.asks_certificates()
     }
 
-    /// Whether clients show by a password alone that they may.
+    /// Returns whether clients log in with only a password.
     pub fn is_by_password_alone(&self) -> bool {
         self.password.is_some() && !self.asks_certificates()
     }
@@ -155,7 +156,7 @@ impl Safety {
         self.tls.as_ref().is_some_and(ClientsTls::asks_clients)
     }
 
-    /// Whether a client that has just come has to do something first before it is answered.
+    /// Returns whether a new client must do something before it is answered.
     pub fn is_guarded(&self) -> bool {
         self.password.is_some() || self.tls.is_some()
     }

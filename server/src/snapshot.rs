@@ -1,9 +1,9 @@
-//! How servers and shards stand, for whoever looks.
+//! The state of servers and shards, for whoever looks.
 use durkenzo::Record;
 use serde::Serialize;
 use std::fmt;
 
-/// How a shard stands.
+/// The state of a shard.
 #[derive(Clone, Debug, Serialize)]
 pub struct ShardStatus {
     /// Its number.
@@ -18,12 +18,12 @@ pub struct ShardStatus {
     pub is_admitted: bool,
     /// How many steps its history has.
     pub generation: u64,
-    /// How many keys of it hold something, where they are counted.
+    /// How many keys it has, if they are counted.
     pub keys: Option<u64>,
 }
 
 impl ShardStatus {
-    /// That of a shard with this record.
+    /// Makes the status of a shard with this record.
     pub fn new(shard: u16, record: Record, keys: Option<u64>) -> ShardStatus {
         ShardStatus {
             shard,
@@ -36,18 +36,18 @@ impl ShardStatus {
         }
     }
 
-    /// The same with its number and its keys.
+    /// Returns its line, with its number and its keys.
     fn line(&self) -> String {
         format!("{} {self} {}", self.shard, counted(self.keys))
     }
 }
 
-/// A count, or a dash where it isn't counted.
+/// Returns a count, or a dash if it isn't counted.
 fn counted(count: Option<u64>) -> String {
     count.map_or_else(|| "-".to_owned(), |it| it.to_string())
 }
 
-/// As scripts are answered by `look`.
+/// Written as scripts are answered by `look`.
 impl fmt::Display for ShardStatus {
     fn fmt(&self, f: &mut fmt::Formatter<'_>) -> fmt::Result {
         let ShardStatus {
@@ -62,37 +62,37 @@ impl fmt::Display for ShardStatus {
     }
 }
 
-/// How a server stands.
+/// The state of a server.
 #[derive(Clone, Debug, Serialize)]
 pub struct ServerStatus {
     /// Its number.
     pub server: u16,
     /// How far its restart has come.
     pub standing: &'static str,
-    /// The servers that fail together with it have the same.
+    /// Its domain. The servers that fail together have the same one.
     pub domain: u16,
     /// How many shards it owns.
     pub shards: usize,
-    /// How often it was admitted to a shard, where that is counted.
+    /// How often it was admitted to a shard, if that is counted.
     pub admissions: Option<u64>,
-    /// What its restart does now, if one is under way.
+    /// The present step of its restart, if one is under way.
     pub doing: Option<String>,
-    /// Its process, where servers have one each.
+    /// Its process, if each server has one.
     pub process: Option<ProcessStatus>,
 }
 
-/// How the process of a server stands, where servers have one each.
+/// The state of a server's process, if each server has one.
 #[derive(Clone, Debug, Serialize)]
 pub struct ProcessStatus {
-    /// Its number among all that ever began, if it is there; else 0.
+    /// Its number among all processes that ever began, if it is there; otherwise 0.
     pub number: u64,
     /// Whether it leads.
     pub leads: bool,
     /// The revision up to which it follows records.
     pub followed: u64,
-    /// Where other processes reach it.
+    /// The address at which other processes reach it.
     pub servers: String,
-    /// Where clients do.
+    /// The address at which clients reach it.
     pub clients: String,
 }
 
@@ -139,13 +139,13 @@ impl fmt::Display for ServerStatus {
     }
 }
 
-/// The names of what the line of a shard tells, in their order.
+/// The columns of a shard's line, in their order.
 const SHARD_COLUMNS: &str = "shard stand owner other admitted generation keys";
-/// Those of a server's, before and behind what is told of its process, where servers have one each.
+/// The columns of a server's line, before and behind those of its process, if each server has one.
 const SERVER_COLUMNS: [&str; 2] = ["server standing domain shards admissions", "doing"];
 const PROCESS_COLUMNS: &str = "process leads followed servers clients";
 
-/// How all stands.
+/// The state of everything.
 #[derive(Clone, Debug, Serialize)]
 pub struct Snapshot {
     /// Each server, by number.
@@ -157,7 +157,7 @@ pub struct Snapshot {
 }
 
 impl Snapshot {
-    /// The names of what is told of each shard, and then a line for each.
+    /// Returns the names of the columns, and then a line for each shard.
     pub fn shard_lines(&self) -> Vec<String> {
         let lines = self.shards.iter().map(ShardStatus::line);
         std::iter::once(SHARD_COLUMNS.to_owned())
@@ -165,7 +165,7 @@ impl Snapshot {
             .collect()
     }
 
-    /// The names of what is told of each server, and then a line for each.
+    /// Returns the names of the columns, and then a line for each server.
     pub fn server_lines(&self) -> Vec<String> {
         let [first, last] = SERVER_COLUMNS;
         let names = match self.servers.iter().any(|it| it.process.is_some()) {

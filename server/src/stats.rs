@@ -1,4 +1,4 @@
-//! What a thread counts, and others read.
+//! The counters of a thread, which other threads read.
 use crate::metric::{Info, Metric, Section, Source};
 use std::collections::BTreeMap;
 use std::sync::atomic::{AtomicU64, Ordering};
@@ -10,21 +10,21 @@ use std::time::Duration;
 pub struct Counter(AtomicU64);
 
 impl Counter {
-    /// Adds to it; for the thread alone that it belongs to.
+    /// Adds to it. Only the thread that owns the counter may call this.
     #[inline]
     pub fn add(&self, more: u64) {
         self.0
             .store(self.get().wrapping_add(more), Ordering::Relaxed);
     }
 
-    /// The number, which may be behind.
+    /// Returns the number, which may be out of date.
     #[inline]
     pub fn get(&self) -> u64 {
         self.0.load(Ordering::Relaxed)
     }
 }
 
-/// How many of something there are, which several threads may change, and which is exact.
+/// An exact number of things, which several threads may change.
 #[derive(Debug, Default)]
 pub struct Gauge(AtomicU64);
 
@@ -39,12 +39,12 @@ impl Gauge {
         self.0.fetch_sub(1, Ordering::Relaxed);
     }
 
-    /// Sets how many there are. Only a thread that alone changes the number may call this.
+    /// Sets the number. Only a thread that is the only one to change it may call this.
     pub fn set(&self, value: u64) {
         self.0.store(value, Ordering::Relaxed);
     }
 
-    /// How many there are.
+    /// Returns how many there are.
     pub fn get(&self) -> u64 {
         self.0.load(Ordering::Relaxed)
     }
@@ -55,7 +55,7 @@ pub const LATENCY_BOUNDS: [u64; 14] = [
     10, 25, 50, 100, 250, 500, 1_000, 2_500, 5_000, 10_000, 25_000, 100_000, 1_000_000, 10_000_000,
 ];
 
-/// How long commands took, by the bounds up to which they did, and last those that took longer than any.
+/// How long commands took: how many took at most each bound, and last how many took longer than all bounds.
 #[derive(Debug, Default)]
 pub struct Latency {
     counts: [Counter; LATENCY_BOUNDS.len() + 1],
@@ -63,7 +63,7 @@ pub struct Latency {
 }
 
 impl Latency {
-    /// Notes that so many commands took so long; for the thread alone that it belongs to.
+    /// Notes that so many commands took so long. Only the thread that owns this may call it.
     pub fn note(&self, took: Duration, commands: u64) {
         let micros = took.as_micros() as u64;
         let place = LATENCY_BOUNDS.partition_point(|it| *it < micros);
@@ -71,42 +71,42 @@ impl Latency {
         self.sum.add(micros.saturating_mul(commands));
     }
 
-    /// How many took up to each bound, and how many longer.
+    /// Returns how many took at most each bound, and how many took longer.
     pub fn counts(&self) -> impl Iterator<Item = u64> + '_ {
         self.counts.iter().map(Counter::get)
     }
 
-    /// The microseconds of all.
+    /// Returns the microseconds of all commands.
     pub fn sum(&self) -> u64 {
         self.sum.get()
     }
 }
 
-/// What a thread did as a server.
+/// The work of a thread as a server.
 ///
-/// Each is a number of its own that only grows, and no difference of two, which are read one after the other: so who
-/// reads again never finds less, as a read of one place never finds an older value than the read before it.
+/// Each is a number of its own that only grows. None is the difference of two numbers, which would be read one after
+/// the other. So a second read never returns less, because a read never returns an older value than the read before it.
 #[derive(Debug, Default)]
 pub struct AsServer {
     /// Admissions to shards.
     pub admissions: Counter,
     /// Commands with keys that were done.
     pub done: Counter,
-    /// Commands with keys that were answered by an error.
+    /// Commands with keys that were answered with an error.
     pub errors: Counter,
 }
 
-/// How often each change was made.
+/// How often each kind of change was made.
 #[derive(Debug, Default)]
 pub struct ChangesMade(Mutex<BTreeMap<&'static str, u64>>);
 
 impl ChangesMade {
-    /// Counts a change of this word.
+    /// Counts a change of this kind.
     pub fn add(&self, word: &'static str) {
         *self.words().entry(word).or_default() += 1;
     }
 
-    /// How often each change was made that was.
+    /// Returns how often each kind of change was made, except for those that never were.
     pub fn counts(&self) -> BTreeMap<&'static str, u64> {
         self.words().clone()
     }
@@ -116,35 +116,35 @@ impl ChangesMade {
     }
 }
 
-/// How often clients were answered by which error.
+/// How often clients were answered with each error.
 pub type ErrorCounts = BTreeMap<Box<str>, u64>;
 
-/// What a thread did.
+/// The work of a thread.
 #[derive(Debug, Default)]
 pub struct Stats {
-    /// Commands that were done, refused ones among them.
+    /// Commands that were done, including refused ones.
     pub commands: Counter,
     /// Requests that a server forwarded to the one that executed them.
     pub forwarded: Counter,
-    /// Tries of commands that found their shard with another thread for longer than a short spin.
+    /// Attempts of commands that found their shard with another thread for longer than a short spin.
     pub raced: Counter,
-    /// Commands that began to wait for a shard that nobody executed.
+    /// Commands that began to wait for a shard that no server executed.
     pub waited: Counter,
     /// Commands that waited in vain.
     pub refused: Counter,
     /// Connections that were accepted.
     pub accepted: Counter,
-    /// Connections that are open, from when the thread is brought them.
+    /// Connections that are open, from the moment when the thread gets them.
     pub open: Gauge,
-    /// Connections whose next command waits for a shard that nobody executes.
+    /// Connections whose next command waits for a shard that no server executes.
     pub waiting: Gauge,
-    /// Bytes that came.
+    /// Bytes that were received.
     pub received: Counter,
-    /// Bytes that went.
+    /// Bytes that were sent.
     pub sent: Counter,
     /// How long commands took.
     pub latency: Latency,
-    /// What was done as each server, from server 1.
+    /// The work as each server, from server 1 on.
     pub servers: Box<[AsServer]>,
     errors: Mutex<ErrorCounts>,
 }
@@ -195,7 +195,7 @@ pub static OF_THREADS: [Metric; 10] = [
     ),
     Metric::counter(
         "raced_tries",
-        "Tries that found a shard with another thread",
+        "Turns of commands that found their shard with another thread, after all --spins",
         Info::Own(Section::Stats),
         Source::Thread(|it| it.raced.get()),
     ),
@@ -214,7 +214,7 @@ pub static OF_THREADS: [Metric; 10] = [
 ];
 
 impl Stats {
-    /// Those of a thread that did nothing yet.
+    /// Makes the counters of a thread that has done nothing yet.
     pub fn new(servers: u16) -> Stats {
         Stats {
             servers: (0..servers).map(|_| AsServer::default()).collect(),
@@ -230,7 +230,7 @@ impl Stats {
         }
     }
 
-    /// The errors with which clients were answered.
+    /// Returns the errors with which clients were answered.
     pub fn errors(&self) -> ErrorCounts {
         let errors = self.errors.lock().unwrap_or_else(PoisonError::into_inner);
         errors.clone()

@@ -1,22 +1,22 @@
-//! Why a thread isn't admitted to a shard, and what waits for that.
+//! Why a thread isn't admitted to a shard, and whether waiting helps.
 use durkenzo::AdmitFault;
 use std::fmt;
 
-/// Why a command can't be done now; it waits, and is refused by this when it has waited in vain.
+/// Why a command can't be done now. The command waits, and is refused with this if it has waited in vain.
 #[derive(Clone, Copy, Debug, PartialEq, Eq)]
 pub enum Wait {
     /// Another thread has the shard.
     Busy(u16),
     /// The shard is paused.
     Paused(u16),
-    /// Nobody owns the shard.
+    /// The shard has no owner.
     Vacant(u16),
-    /// The server that executes the shard is stopped or has failed: the shard and the server.
+    /// The server that executes the shard is stopped or has failed. These are the shard and the server.
     Unreachable(u16, u16),
 }
 
 impl Wait {
-    /// The name, as in scripts.
+    /// Returns the name, as in scripts.
     pub fn name(self) -> &'static str {
         match self {
             Wait::Busy(_) => "Busy",
@@ -26,7 +26,7 @@ impl Wait {
         }
     }
 
-    /// Why it can't be done now.
+    /// Returns why the command can't be done now.
     pub fn reason(self) -> String {
         match self {
             Wait::Busy(shard) => format!("shard {shard} was with others all the time"),
@@ -38,7 +38,7 @@ impl Wait {
         }
     }
 
-    /// What to do.
+    /// Returns the advice.
     pub fn advice(self) -> String {
         match self {
             Wait::Busy(_) => "try again".to_owned(),
@@ -66,7 +66,7 @@ impl fmt::Display for Wait {
 /// Why a thread isn't admitted.
 #[derive(Clone, Copy, Debug, PartialEq, Eq)]
 pub enum NotAdmitted {
-    /// It may be later.
+    /// Waiting may help.
     Wait(Wait),
     /// The board refuses it.
     Refused(AdmitFault),

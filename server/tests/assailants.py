@@ -1,6 +1,6 @@
 #!/usr/bin/env python3
-"""Clients that begin TLS and mean no good, until they are told to end by the end of their input: assailants.py PORT HOW
-COUNT [FILE]. It says when they begin. So many threads connect again and again, and do this:
+"""Clients that begin TLS with bad intent, until the end of their input tells them to stop: assailants.py PORT HOW COUNT
+[FILE]. It says when they begin. So many threads connect again and again, and do this:
 
     chain    a handshake in which they show the certificates of FILE, with its key
     bare     a handshake in which they show none
@@ -8,7 +8,7 @@ COUNT [FILE]. It says when they begin. So many threads connect again and again, 
     hello    the first message of a handshake, and the alert
     stall    nothing, or half of that message, by turns; they stay until the other side ends the connection
 
-What is measured beside them runs in another process, so that they take no turn of its interpreter."""
+The measurement beside them runs in another process, so that they take no turn of its interpreter."""
 import contextlib
 import os
 import random
@@ -20,15 +20,15 @@ import time
 
 HOST = "127.0.0.1"
 CLOSE_NOTIFY = bytes.fromhex("15030300020100")
-# How long a connection lasts where the other side doesn't end it, and the pause before the next one.
+# How long a connection lasts if the other side doesn't end it, and the pause before the next one.
 LASTS, PAUSE = 1.0, 0.01
-# The same of those that stall, which rest for this time by the mean: they fill places by their number, and don't come
-# quicker than others can be met.
+# The same for those that stall. They rest for this time on average, because they fill places by their number, and
+# needn't come faster than others can be met.
 STAYS, RESTS = 60.0, 2.0
 
 
 def context(file):
-    """What shows the certificates of this file, and takes whatever it is shown."""
+    """Shows the certificates of this file, and accepts any certificate."""
     found = ssl.SSLContext(ssl.PROTOCOL_TLS_CLIENT)
     found.check_hostname, found.verify_mode = False, ssl.CERT_NONE
     if file:
@@ -37,7 +37,7 @@ def context(file):
 
 
 def hello():
-    """The first message of a handshake by TLS 1.2."""
+    """Returns the first message of a TLS 1.2 handshake."""
     tls = context(None)
     tls.maximum_version = ssl.TLSVersion.TLSv1_2
     out = ssl.MemoryBIO()
@@ -68,7 +68,7 @@ def stall(port, begun):
 
 def main():
     port, how, count, file = int(sys.argv[1]), sys.argv[2], int(sys.argv[3]), [*sys.argv[4:], None][0]
-    # Those beside whom they are have the processors first.
+    # The clients beside them get the processors first.
     os.nice(10)
     tls = context(file) if how in ("chain", "bare") else None
     begun = {"alert": CLOSE_NOTIFY, "hello": hello() + CLOSE_NOTIFY}.get(how)

@@ -1,14 +1,17 @@
 #!/usr/bin/env python3
-"""Several processes over etcd, each with one server: any answers any key, kills lose nothing that was answered, and
+"""Several processes over etcd, each with one server: any process answers any key, kills lose no acknowledged write, and
 migrations lose no addition.
 
     server/tests/cluster.py PROGRAM
 
 Three processes and a member of etcd run on loopback, in a folder that is removed."""
+import base64
 import contextlib
+import json
 import os
 import pathlib
 import random
+import re
 import shutil
 import signal
 import socket
@@ -17,6 +20,7 @@ import sys
 import tempfile
 import threading
 import time
+import urllib.error
 import urllib.request
 
 sys.dont_write_bytecode = True
@@ -25,20 +29,23 @@ import scans
 import served
 from served import Missed, Refused, again, caught, eventually, free_ports, main, within
 
-# Has a program see its machine as one that was suspended.
+# This makes a program see its machine as if it had been suspended.
 SUSPENDED = pathlib.Path(__file__).resolve().parents[2] / "tools/suspended.c"
+DEPLOYED = pathlib.Path(__file__).resolve().parents[2] / "deploy"
+ALERTS, DASHBOARD = DEPLOYED / "alerts.yml", DEPLOYED / "dashboard.json"
 SHARDS = 12
 SERVERS = 3
-# For how long a process may stand still, where a test is of what comes then, and where none is.
+# How long a process may stand still: if the test is about the time after that, and if it isn't.
 LEASE, LASTING = 6, 30
-# How long after a lease's end shards are answered for elsewhere; on a busy machine it takes longer.
+# How long after a lease's end its shards are answered elsewhere. On a busy machine it takes longer.
 RECOVERY = 2
-# What a machine with other work may take besides.
+# The time that other work on the machine may take besides.
 SLOW = 6
 PATIENCE = served.SECONDS
-# How soon it is told that a process isn't reached: connecting in vain takes longer.
+# How soon a client is told that a process can't be reached. A connection attempt in vain takes longer.
 SOON = 1.8
-# Where etcd's data lies: in memory, if there is room, so that no disk is waited for. A member takes 64 MB at first.
+# The folder for etcd's data, in memory if there is room, so that tests don't wait for a disk. A member takes 64 MB at
+# first.
 MEMORY = "/dev/shm"
 HAS_MEMORY = os.access(MEMORY, os.W_OK) and shutil.disk_usage(MEMORY).free > 1 << 30
 ROOM = MEMORY if HAS_MEMORY else None
@@ -89,10 +96,10 @@ def is_up(port):
 
 
 class Process(served.Server):
-    """A process of the cluster, whose log is kept."""
+    """A process of the cluster. Its log is kept."""
 
     def __init__(self, program, cluster, server, options=()):
-        # It ends by SIGTERM with 0, whatever a test does meanwhile.
+        # It must end by SIGTERM with 0, whatever a test does meanwhile.
         how = {"stderr": subprocess.PIPE, "stdin": subprocess.DEVNULL, "text": True, "env": cluster.env}
         process = subprocess.Popen(command(program, cluster, server, options), **how)
         super().__init__(process, served.port_of(process))
@@ -129,16 +136,16 @@ class Cluster:
         return self.processes[server].client()
 
     def any(self):
-        """A client of any process that runs."""
+        """Returns a client of any process that runs."""
         return self.client(next(it for it, process in self.processes.items() if process.is_alive()))
 
     def leader(self):
-        """The server whose process leads."""
+        """Returns the server whose process leads."""
         with self.any() as client:
             return eventually(lambda: next((int(it[0]) for it in rows(client) if "leads" in it), None))
 
     def settled(self, without=None):
-        """Waits until each shard has an owner that is there, and serves; not this one."""
+        """Waits until each shard has an owner that is there and serves, and isn't this one."""
         with self.any() as client:
             eventually(lambda: is_settled(client, str(without)))
 
@@ -174,12 +181,12 @@ def cluster(program, *options, lease=LASTING, members=1, env=None):
 
 
 def rows(client):
-    """What SM SERVERS tells of each server."""
+    """Returns the rows of SM SERVERS."""
     return client.rows("SERVERS")
 
 
 def shards(client):
-    """The stand and the owner of each shard."""
+    """Returns the stand and the owner of each shard."""
     return [tuple(it[1:3]) for it in client.rows("SHARDS")]
 
 
@@ -190,12 +197,12 @@ def is_settled(client, without=None):
 
 
 def any_process_answers_any_key(program):
-    # Whoever begins as one that runs waits for a lease to learn it.
+    # A process that begins as a server that runs already waits for a lease before it knows that.
     with cluster(program, lease=LEASE) as several, served.served(program) as memory, contextlib.ExitStack() as stack:
         one = stack.enter_context(memory.client())
         clients = [stack.enter_context(several.client(it)) for it in several.processes]
         for words in durable.random_lines(random.Random(5), 500):
-            # A transaction is a connection's own.
+            # A transaction belongs to one connection.
             is_of_one = words[0] in ("MULTI", "EXEC", "PING") or one_is_queued(one)
             client = clients[0] if is_of_one else random.choice(clients)
             told, wanted = (served_answer(it, words) for it in (client, one))
@@ -211,6 +218,72 @@ def any_process_answers_any_key(program):
         refused_by_name(program, several)
         strangers_are_refused(several)
         assert clients[1].ask("GET", "{once}") == b"2"
+
+
+def a_process_without_etcd_says_so(program):
+    """While etcd doesn't answer, a process is alive but not ready, and names no leader and no other process."""
+    port = free_ports(1)[0]
+    with cluster(program, lease=LEASE) as several:
+        server = next(iter(several.processes))
+        several.processes.pop(server).kill(signal.SIGTERM)
+        several.begin(server, "--http-port", port)
+        eventually(lambda: probed(port, "/ready")[0] == 200)
+        told = numbers(port)
+        assert told["lease_kept"] == told["led"] == 1 and told["servers_there"] == SERVERS, told
+        assert 0 < told["lease_left_milliseconds"] <= LEASE * 1000 and told["store_full"] == 0, told
+        assert told['transactions_total{outcome="made"}'] > 0 and told["store_written_bytes_total"] > 0, told
+        assert told["transaction_seconds_count"] > 0, told
+        watched_numbers_are_told(port, several.client(server))
+        for it in several.etcd.processes:
+            it.send_signal(signal.SIGSTOP)
+        try:
+            time.sleep(LEASE + SOON)
+            status, why = probed(port, "/ready")
+            assert status == 503 and why.startswith("the lease isn't kept"), (status, why)
+            assert probed(port, "/live") == (200, "ok\n")
+            told = numbers(port)
+            gone = ("lease_kept", "lease_left_milliseconds", "led", "leads", "servers_there")
+            assert not any(told[it] for it in gone) and told["store_silent_seconds"] >= LEASE, told
+        finally:
+            for it in several.etcd.processes:
+                it.send_signal(signal.SIGCONT)
+        eventually(lambda: probed(port, "/ready") == (200, "ok\n"))
+
+
+def watched_numbers_are_told(port, client):
+    """The alerts and the dashboard read only numbers that a process tells, in Prometheus' grammar."""
+    shown = json.loads(DASHBOARD.read_text(encoding="utf-8"))["panels"]
+    expressions = [target["expr"] for panel in shown for target in panel["targets"]]
+    read = set(re.findall(r"durkenzo_(\w+)", ALERTS.read_text(encoding="utf-8") + " ".join(expressions)))
+    with client, contextlib.suppress(Refused):
+        client.ask("NOSUCH")
+    # Only a process that has led tells which changes it made.
+    told = {it.split("{")[0] for it in numbers(port)} | {"changes_total"}
+    assert read <= told, read - told
+    if shutil.which("promtool"):
+        rules = [{"record": f"shown:{at}", "expr": it} for at, it in enumerate(expressions)]
+        with tempfile.NamedTemporaryFile("w", suffix=".yml") as file:
+            json.dump({"groups": [{"name": "shown", "rules": rules}]}, file)
+            file.flush()
+            subprocess.run(["promtool", "check", "rules", ALERTS, file.name], check=True, capture_output=True)
+
+
+def probed(port, path):
+    """Returns the status and the body at this path, or nothing while nobody listens there."""
+    try:
+        with urllib.request.urlopen(f"http://127.0.0.1:{port}{path}", timeout=PATIENCE) as answer:
+            return answer.status, answer.read().decode()
+    except urllib.error.HTTPError as error:
+        return error.code, error.read().decode()
+    except (ConnectionError, urllib.error.URLError):
+        return None, ""
+
+
+def numbers(port):
+    """Returns the samples of /metrics, by name."""
+    lines = probed(port, "/metrics")[1].splitlines()
+    told = dict(it.removeprefix("durkenzo_").rsplit(" ", 1) for it in lines if not it.startswith("#"))
+    return {name: float(value) for name, value in told.items()}
 
 
 def any_process_scans_all_keys(program):
@@ -230,13 +303,53 @@ def any_process_scans_all_keys(program):
         several.processes.pop(gone).kill()
         other = next(iter(several.processes))
         with several.client(other) as client:
-            # What a shard that nobody executes has isn't left out: it is waited for.
+            # The keys of a shard that no server executes aren't left out: the scan waits for it.
             assert stays <= scans.scanned(client, 1000)
             assert client.ask("DBSIZE") >= scans.COUNT
 
 
+def clusters_share_an_etcd(program):
+    """By prefixes: each has its own leader, settings and data, and nothing of either lies elsewhere."""
+    with cluster(program, "--prefix", "/one/") as one:
+        other = Cluster(program, one.etcd, ("--prefix", "/two/", "--shards", 5), one.lease, None)
+        try:
+            for server in range(1, SERVERS + 1):
+                other.begin(server)
+            with other.any() as second:
+                eventually(lambda: len(shards(second)) == 5 and is_settled(second))
+                with one.any() as first:
+                    assert len(shards(first)) == SHARDS
+                    for client, value in ((first, "1"), (second, "2")):
+                        client.ask("SET", "key", value)
+                    assert (first.ask("GET", "key"), second.ask("GET", "key")) == (b"1", b"2")
+                _, owner = shards(second)[0]
+                to = int(owner) % SERVERS + 1
+                second.ask("SM", "MIGRATE", 0, to)
+                eventually(lambda: (0, int(owner), to) in moves_in_log(other))
+        finally:
+            other.stop()
+        keys = keys_in(one.etcd)
+        assert {it.split("/")[1] for it in keys if it.startswith("/")} == {"one", "two"}, keys
+        assert all(it.startswith("/") for it in keys), keys
+
+
+def moves_in_log(several):
+    """The shards that have moved, from where, and where they are, as processes log it."""
+    lines = [json.loads(it)["fields"] for process in several.processes.values() for it in list(process.log)]
+    moved = [it for it in lines if it["message"] == "the shard has moved"]
+    return [(it["shard"], it["from"], it["to"]) for it in moved]
+
+
+def keys_in(etcd):
+    """All keys that lie in etcd."""
+    least = base64.b64encode(b"\0").decode()
+    asked = json.dumps({"key": least, "range_end": least, "keys_only": True}).encode()
+    with urllib.request.urlopen(f"{etcd.urls.split(',')[0]}/v3/kv/range", asked, timeout=PATIENCE) as answer:
+        return [base64.b64decode(it["key"]).decode() for it in json.load(answer)["kvs"]]
+
+
 def any_process_lists_and_flushes_all_keys(program):
-    """By requests that older processes know, too."""
+    """They use only requests that older processes know, too."""
     with cluster(program) as several:
         scans.keys_are_listed_and_flushed(several.processes[2], most=None)
         clients = [scans.of(it) for it in several.processes.values()]
@@ -249,7 +362,7 @@ def any_process_lists_and_flushes_all_keys(program):
 
 
 def a_pipeline_at_another_process_keeps_its_order(program):
-    """Also if only some of its commands are known to older processes."""
+    """This also holds if older processes know only some of its commands."""
     with cluster(program) as several, Load(several, 12), contextlib.ExitStack() as stack:
         clients = [stack.enter_context(several.client(it)) for it in several.processes]
         for place in range(150):
@@ -261,7 +374,7 @@ def a_pipeline_at_another_process_keeps_its_order(program):
 
 
 def what_many_write_at_once_fits_etcd(program):
-    """To one shard, of which etcd takes less at once than any two of the large commands are."""
+    """All go to one shard. etcd takes less at once than any two of the large commands have."""
     text = b"x" * 60_000
     each = [[["MULTI"], *(["SET", f"{{big}}{it} {key}", text] for key in range(14)), ["EXEC"]] for it in range(6)]
     each += [[["APPEND", f"{{big}}{it}", text], ["GET", f"{{big}}{it}"]] for it in range(30)]
@@ -309,7 +422,7 @@ def reads_by_lease_make_no_transaction(program):
 
 
 def transactions(several):
-    """How many transactions etcd has answered."""
+    """Returns how many transactions etcd has answered."""
     with urllib.request.urlopen(f"{several.etcd.urls.split(',')[0]}/metrics", timeout=PATIENCE) as told:
         lines = told.read().decode().splitlines()
     counted = [it for it in lines if it.startswith("grpc_server_handled_total") and 'grpc_method="Txn"' in it]
@@ -317,7 +430,7 @@ def transactions(several):
 
 
 def reads_by_lease(process):
-    """How many reads the process has answered without a transaction."""
+    """Returns how many reads the process has answered without a transaction."""
     with process.client() as client:
         told = client.ask("INFO", "cluster").decode()
     return int(told.partition("reads_by_lease:")[2].split()[0])
@@ -351,8 +464,9 @@ def a_machine_that_was_suspended_tells_what_others_wrote(program):
 
 
 def told_past_its_lease(several, wake):
-    """Stops a process until others have written its keys, for longer than a lease, and says how many of them it answers
-    then; a command waits there already. `wake` is called with the process, and how long it stood, before it goes on."""
+    """Stops a process until others have written its keys, for longer than a lease. Returns how many of them it answers
+    then. A command waits there already. `wake` is called with the process, and with how long it stood, before it goes
+    on."""
     gone = next(it for it in several.processes if it != several.leader())
     other = next(it for it in several.processes if it != gone)
     process = several.processes[gone].process
@@ -372,7 +486,7 @@ def told_past_its_lease(several, wake):
         wake(process, time.monotonic() - began)
         process.send_signal(signal.SIGCONT)
         told = [client.read() for _ in keys]
-        # One that is refused tells nothing.
+        # An answer that refuses tells no value.
         assert all(it == b"new" or isinstance(it, Refused) for it in told), told
         return f"{sum(it == b'new' for it in told)} of {len(keys)} answered at once"
 
@@ -394,7 +508,7 @@ def processes_speak_tls_and_know_a_secret(program):
 
 
 def is_refused_by_its_secret(stranger):
-    """Whether a process is told that its secret is another one, whatever it asks others for."""
+    """Returns whether a process is told that its secret is wrong, whatever it asks others for."""
     answers = stranger.piped([("GET", f"key:{it}") for it in range(20)])
     told = [str(it) for it in answers if isinstance(it, Refused)]
     return bool(told) and all("its secret is another one" in it for it in told)
@@ -417,7 +531,7 @@ def who_ends_within_a_handshake_holds_no_thread(program):
 
 
 def certify(folder):
-    """Writes two secrets, an authority, and a certificate of it for peers."""
+    """Writes two secrets, an authority, and a certificate from it for peers."""
     for name in ("secret", "other"):
         pathlib.Path(folder, name).write_text(f"the {name} one\n")
     pathlib.Path(folder, "names").write_text("subjectAltName=DNS:peer.durkenzo\nbasicConstraints=CA:FALSE\n")
@@ -456,7 +570,7 @@ def answered_once(clients):
 
 
 def strangers_are_refused(several):
-    """What nobody of the cluster sends where processes reach each other ends that connection, and nothing else."""
+    """Bytes that no process of the cluster sends end their connection at the processes' address, and nothing else."""
     with several.any() as client:
         places = [it[8].rpartition(":") for it in rows(client)]
     chance, hello = random.Random(9), b"SMP\0\x01\0\0\0\x19\x01"
@@ -467,7 +581,7 @@ def strangers_are_refused(several):
         with socket.create_connection((host, int(port)), PATIENCE) as stranger:
             stranger.sendall(bytes_of_one)
             stranger.shutdown(socket.SHUT_WR)
-            # It is told nothing but why it is refused.
+            # The client is told only why it is refused.
             with contextlib.suppress(ConnectionError):
                 told = b"".join(iter(lambda: stranger.recv(4096), b""))
                 assert not told or told[9] == 3, told
@@ -475,11 +589,11 @@ def strangers_are_refused(several):
 
 
 def refused_by_name(program, several):
-    """Starts that are refused, beside a cluster that runs; where the page's port is taken before anything else is said
-    to etcd."""
+    """Tests starts that are refused, beside a cluster that runs. The page's port is taken before anything is said to
+    etcd."""
     taken = several.processes[1].port
     for options, server, name in (
-        (("--servers", 2), 1, "OTHERSETTINGS"), (("--shards", 5), 1, "OTHERSETTINGS"), ((), 2, "running already"),
+        (("--servers", 2), 1, "running already"), (("--shards", 5), 1, "OTHERSETTINGS"), ((), 2, "running already"),
         ((), 9, "--name 9"), (("--http-port", taken), 2, "--http-port takes another port"),
     ):
         words = command(program, several, server, (*several.options, *options))
@@ -487,8 +601,18 @@ def refused_by_name(program, several):
         assert ran.returncode == 1 and name in ran.stderr, f"{name}: {ran.returncode}, {ran.stderr[-500:]}"
 
 
+def an_etcd_that_isnt_there_is_looked_for_by_name(program):
+    """A start without etcd says at which addresses it looked, and what to do."""
+    ports = ("--port", "0", "--http-port", "0", "--listen", "127.0.0.1:0")
+    words = [program, "--name", "1", "--etcd", "http://127.0.0.1:1", *ports]
+    ran = subprocess.run(words, capture_output=True, text=True, timeout=PATIENCE)
+    told = ("http://127.0.0.1:1", "refused", "is it running", "--etcd")
+    assert ran.returncode == 1 and all(it in ran.stderr for it in told), f"{ran.returncode}, {ran.stderr[-500:]}"
+
+
 class Load(contextlib.AbstractContextManager):
-    """Clients that add to counts of their own, at all processes; a client goes on at another one where its own ends."""
+    """Clients that add to their own counts, at all processes. If a client's process ends, the client goes on at another
+    one."""
 
     def __init__(self, several, keys):
         self.several, self.stop = several, threading.Event()
@@ -512,7 +636,7 @@ class Load(contextlib.AbstractContextManager):
             with contextlib.suppress(OSError, ValueError):
                 with self.several.client(server) as client:
                     self.add_by(client, number)
-            # Whether the last one was made isn't known.
+            # Whether the last addition was made isn't known.
             self.unknown[number] += not self.stop.is_set()
             server = server % SERVERS + 1
 
@@ -528,7 +652,7 @@ class Load(contextlib.AbstractContextManager):
             self.longest = max(self.longest, time.monotonic() - began)
 
     def checked(self, client):
-        """Sees that each answered addition is counted, and no other but those of which nothing is known."""
+        """Checks that each acknowledged addition is counted, and no other except those with an unknown outcome."""
         for number, (acked, unknown) in enumerate(zip(self.acked, self.unknown)):
             counted = int(client.ask("GET", f"count:{number}") or 0)
             told = f"count {number}: {acked} answered, {unknown} unknown, {counted} counted"
@@ -551,7 +675,7 @@ def migrations_lose_no_addition(program):
 
 
 def shards_spread_over_servers_again(program):
-    """By one command, under load."""
+    """One command moves them, under load."""
     with cluster(program) as several, Load(several, 6) as load, several.any() as client:
         client.ask("SM", "DRAIN", 2)
         owned = sorted(owner for _, owner in shards(client))
@@ -593,7 +717,7 @@ def kills_of_a_process_lose_nothing(program):
 
 @again
 def who_does_not_wait_is_told(program):
-    """A process that is stopped, and one that is gone: what it was asked may be made, what it isn't asked is not."""
+    """A process is stopped, and one is gone. Requests that were sent to it may be done; others aren't."""
     with cluster(program, "--wait", 150, lease=LEASE) as several:
         gone = next(it for it in several.processes if it != several.leader())
         with Load(several, 18) as load:
@@ -620,7 +744,7 @@ def who_does_not_wait_is_told(program):
 
 
 def without_command(program, name, room):
-    """A copy of the program that doesn't know this command: in its table that has another name."""
+    """Returns a copy of the program that doesn't know this command, because its table has another name for it."""
     code = pathlib.Path(program).read_bytes()
     own, other = (it.encode().ljust(16, b"\0") for it in (name, f"{name[:-1]}~"))
     assert code.count(own) == 1, f"{code.count(own)} places of {name}"
@@ -631,7 +755,7 @@ def without_command(program, name, room):
 
 
 def one_process_knows_a_command_more(program):
-    """As while processes are upgraded: what the other ones don't know is refused alone, and nothing else is."""
+    """Tests an upgrade of processes: commands that the other processes don't know are refused, and nothing else is."""
     with tempfile.TemporaryDirectory() as room, cluster(program) as several:
         older = without_command(program, "strlen", room)
         with served.served(older) as alone, alone.client() as client:
@@ -676,7 +800,7 @@ def one_process_knows_a_command_more(program):
 
 @again
 def who_takes_the_place_of_a_process_is_asked(program):
-    """The process before it was stopped, so that connections to it stay; strangers take what places they get."""
+    """The process was stopped before this, so connections to it stay. Strangers take the places that they get."""
     with cluster(program, lease=LEASE) as several, contextlib.ExitStack() as stack:
         gone = next(it for it in several.processes if it != several.leader())
         client = stack.enter_context(several.client(next(it for it in several.processes if it != gone)))
@@ -702,14 +826,16 @@ def who_takes_the_place_of_a_process_is_asked(program):
 
 
 def give_all(client, server):
-    """Has the server own all shards."""
+    """Makes the server own all shards."""
     for shard, (_, owner) in enumerate(shards(client)):
         if owner != str(server):
-            client.ask("SM", "MIGRATE", shard, server)
+            # The shard may come home by itself meanwhile.
+            told = refusal(client, "SM", "MIGRATE", shard, server)
+            assert told == "answered OK" or told.startswith("REFUSED SameServer"), told
 
 
 def errors_of_the_control_are_counted(process, port):
-    """At the process that the client asks, which isn't the one that refuses."""
+    """The client asks this process, which isn't the one that refuses."""
     with process.client() as client, durable.served_refusal("REFUSED"):
         client.ask("SM", "MIGRATE", 0, SERVERS + 1)
     with urllib.request.urlopen(f"http://127.0.0.1:{port}/metrics", timeout=PATIENCE) as told:
@@ -719,7 +845,7 @@ def errors_of_the_control_are_counted(process, port):
 
 @again
 def who_is_not_reached_is_told_in_time(program):
-    """A machine that answers no connection doesn't have others wait for longer than they like."""
+    """A machine that answers no connection doesn't make others wait longer than they allow."""
     with cluster(program, "--wait", 500) as several, contextlib.ExitStack() as stack:
         silent = next(it for it in several.processes if it != several.leader())
         client = stack.enter_context(several.client(next(it for it in several.processes if it != silent)))
@@ -741,7 +867,7 @@ def who_is_not_reached_is_told_in_time(program):
 
 
 def full_place(stack):
-    """An address at which nobody is connected, as too many wait there."""
+    """An address at which nobody can connect, because too many wait there."""
     place = stack.enter_context(socket.create_server(("127.0.0.1", 0), backlog=0))
     for _ in range(4):
         waiting = stack.enter_context(socket.socket())
@@ -787,7 +913,8 @@ def kills_of_the_leader_let_drains_go_on(program):
 
 
 def commands_wait_for_who_leads_next(program):
-    """Where the process that leads ends, none of others is refused but what it had begun, which goes on."""
+    """If the leading process ends, it refuses only requests that it had begun to handle itself; those of others go
+    on."""
     with cluster(program) as several:
         leader = several.leader()
         one, other = (it for it in several.processes if it != leader)
@@ -838,8 +965,79 @@ def restarts_are_told_when_a_process_may_end(program):
         return f"{load.checked(client)} additions, {len(load.errors)} of unknown outcome"
 
 
+def who_is_terminated_gives_its_shards_away(program):
+    """SIGTERM is enough to restart each server, under load: its shards go before it ends, and come home."""
+    with cluster(program, "--grace", 20_000) as several, Load(several, 6) as load:
+        for server in list(several.processes):
+            other = next(it for it in several.processes if it != server)
+            with several.client(other) as client:
+                assert several.processes[server].kill(signal.SIGTERM) == 0
+                stands = shards(client)
+                assert all(stand in ("Serving", "Taken") and owner != str(server) for stand, owner in stands), stands
+                several.begin(server)
+                eventually(lambda: rows(client)[server - 1][1] == "up")
+                eventually(lambda: str(server) in [owner for _, owner in shards(client)])
+        load.__exit__()
+        wrong = [it for it in load.errors if not it.startswith(("UNKNOWN", "PEERDOWN"))]
+        assert not wrong, wrong[:3]
+        with several.client(1) as client:
+            return f"{load.checked(client)} additions, {len(load.errors)} of unknown outcome"
+
+
+def servers_come_and_go(program):
+    """Three servers become four, and three again, under load. SM CONFIGURE shows the line, and takes another one."""
+    with cluster(program, lease=LEASE) as several, Load(several, 6) as load, several.client(1) as client:
+        line, number = (it.decode() for it in client.ask("SM", "CONFIGURE"))
+        settings, first = json.loads(line), int(number.split()[1])
+        assert refusal(client, "SM", "RESIZE", 2).startswith(("REFUSED InUse", "REFUSED Unkept"))
+        wrong = [
+            ({**settings, "bounds": settings["bounds"][:-1]}, "BadSettings"),
+            ({**settings, "ceiling": settings["ceiling"] - 1}, "OtherSettings"),
+            ({**settings, "servers": [{**it, "id": 2 * it["id"]} for it in settings["servers"]]}, "BadSettings"),
+            ({**settings, "servers": [{**it, "capacity": 0} for it in settings["servers"]]}, "Unkept"),
+        ]
+        for other, name in wrong:
+            told = refusal(client, "SM", "CONFIGURE", json.dumps(other))
+            assert told.startswith(f"REFUSED {name}"), told
+        assert client.ask("SM", "RESIZE", 4) == "OK"
+        four, number = (it.decode() for it in client.ask("SM", "CONFIGURE"))
+        assert len(json.loads(four)["servers"]) == 4 and int(number.split()[1]) > first, number
+        # It begins as the others did, and adopts the settings in force.
+        several.begin(4)
+        eventually(lambda: len(rows(client)) == 4 and rows(client)[3][1] == "up")
+        assert client.ask("SM", "MIGRATE", 0, 4) == "OK"
+        with several.client(4) as fourth:
+            eventually(lambda: shards(fourth)[0] == ("Serving", "4"))
+            moved = client.ask("SM", "DRAIN", 4)
+            assert moved and not any(owner == "4" for _, owner in shards(client)), moved
+            assert refusal(client, "SM", "RESIZE", 3).startswith("REFUSED InUse")
+        assert "is stopped" in client.ask("SM", "RESTART", 4)
+        # A line feed counts as a space.
+        assert client.ask("SM", "CONFIGURE", f"{line}\n") == "OK"
+        # Its process ends by itself, because there is no such server any more.
+        assert several.processes.pop(4).process.wait(PATIENCE) == 1
+        for it in several.processes:
+            with several.client(it) as one:
+                eventually(lambda: len(rows(one)) == 3)
+        gone = next(it for it in several.processes if it not in (1, several.leader()))
+        several.processes.pop(gone).kill()
+        several.settled(without=gone)
+        load.__exit__()
+        wrong = [it for it in load.errors if not it.startswith(("UNKNOWN", "PEERDOWN"))]
+        assert not wrong, wrong[:3]
+        return f"{load.checked(client)} additions, {len(load.errors)} of unknown outcome"
+
+
+def refusal(client, *words):
+    """Returns the refusal of the command."""
+    try:
+        return f"answered {client.ask(*words)}"
+    except Refused as refused:
+        return str(refused)
+
+
 def the_next_leader_knows_which_process_was_stopped(program):
-    """A restart may be asked for again, and the process that was stopped isn't taken for the next one, whoever leads."""
+    """A restart may be asked for again. The process that was stopped isn't taken for the next one, whoever leads."""
     with cluster(program) as several:
         leader = several.leader()
         server, other = (it for it in several.processes if it != leader)
@@ -885,8 +1083,10 @@ def restarts_wait_for_no_process_that_has_failed(program):
 
 TESTS = [
     any_process_answers_any_key,
+    a_process_without_etcd_says_so,
     any_process_scans_all_keys,
     any_process_lists_and_flushes_all_keys,
+    clusters_share_an_etcd,
     a_pipeline_at_another_process_keeps_its_order,
     what_many_write_at_once_fits_etcd,
     reads_by_lease_make_no_transaction,
@@ -903,8 +1103,11 @@ TESTS = [
     kills_of_the_leader_let_drains_go_on,
     commands_wait_for_who_leads_next,
     restarts_are_told_when_a_process_may_end,
+    who_is_terminated_gives_its_shards_away,
+    servers_come_and_go,
     the_next_leader_knows_which_process_was_stopped,
     restarts_wait_for_no_process_that_has_failed,
+    an_etcd_that_isnt_there_is_looked_for_by_name,
 ]
 
 BY_TLS = [processes_speak_tls_and_know_a_secret, who_ends_within_a_handshake_holds_no_thread]

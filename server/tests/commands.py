@@ -1,5 +1,5 @@
 #!/usr/bin/env python3
-"""Every command, beside redis-server and by redis-py: commands.py PROGRAM. It needs redis-server and redis-py."""
+"""Every command, beside redis-server and with redis-py: commands.py PROGRAM. It needs redis-server and redis-py."""
 import contextlib
 import itertools
 import pathlib
@@ -16,7 +16,7 @@ from served import SECONDS, Client, Refused, eventually, free_port, main, served
 
 SM = pathlib.Path(__file__).resolve().parents[2] / "sm"
 
-# Each is sent to both servers, whose answers have to be the same bytes.
+# Each is sent to both servers. Their answers must be the same bytes.
 ALIKE = """
 GET a
 SET a 10
@@ -285,12 +285,12 @@ HELLO 2 setname
 HELLO 3 AUTH default
 HELLO abc NOSUCH
 """
-# The same of what is no text, or has a zero.
+# The same for arguments that aren't text, or have a zero byte.
 ALIKE_BYTES = [
     (b"\xff\xfe", "a", b"\xc3("), (b"no\x00such", b"a\x00b", b"\xff\n"), (b"x" * 200, b"y" * 100, b"z" * 100),
     (b"\xff" * 200,), ("CLIENT", b"N\xff"), ("CONFIG", b"\r\n\xe4"), ("HELLO", 3, b"N\xff"), ("GET", b"\xff", b"\xfe"),
 ]  # fmt: skip
-# What only one of them has; each is answered by what begins so.
+# Commands that only one of them has, with the beginnings of their answers.
 OWN = [
     ("SET a b EX 10", "NOEXPIRY"),
     ("SM AT 1 MGET a b c d e f", "CROSSSHARD"),
@@ -312,7 +312,7 @@ OWN = [
 
 @contextlib.contextmanager
 def redis_served():
-    """A redis-server that keeps nothing; its port."""
+    """Runs a redis-server that keeps nothing, and returns its port."""
     port = free_port()
     with tempfile.TemporaryDirectory() as room:
         command = ["redis-server", "--port", str(port), "--save", "", "--appendonly", "no", "--dir", room]
@@ -326,20 +326,20 @@ def redis_served():
 
 
 def is_served(port):
-    """Whether somebody listens at this port."""
+    """Returns whether somebody listens at this port."""
     with contextlib.suppress(OSError), Client(port):
         return True
     return False
 
 
 def by_hello(client, version):
-    """Has the connection speak this version."""
+    """Switches the connection to this version of the protocol."""
     client.raw("HELLO", version)
     return client
 
 
 def answers_are_those_of_redis(program):
-    """In both versions of the protocol."""
+    """Both versions of the protocol are compared."""
     count, differences = 0, []
     with redis_served() as other, served(program) as server:
         for version in (2, 3):
@@ -362,7 +362,7 @@ def answers_are_those_of_redis(program):
     return f"{count} answers"
 
 
-# What arguments may be, that are numbers or aren't.
+# Arguments that are numbers, or look like numbers.
 ODD = ["0", "1", "-1", "-0", "", "x", "007", "+1", " 1", "1 ", "0.1", ".5", "5.", "-1.5e3", "1e400", "1e-30", "0x1p3"]
 ODD += ["inf", "-Infinity", "nan", "1e5000", "3", "100", "9223372036854775807", "-9223372036854775808", "two words"]
 ODD += [b"\0\xff", "1e", "99999999999999999999", "3.14159265358979323846"]
@@ -370,7 +370,7 @@ OFFSETS = ["0", "1", "5", "300", "-1", "x", "", "1.0", " 1", "-92233720368547758
 
 
 def random_call(chance):
-    """A command on few keys, whose arguments may be none and may be too many."""
+    """Returns a command on few keys. It may have no arguments, or too many."""
     key, other, text, more = (chance.choice(it) for it in (["{t}1", "{t}2", "b"], ["{t}1", "{t}3"], ODD, ODD))
     offset = chance.choice(OFFSETS)
     calls = [("GET",), ("STRLEN",), ("TYPE",), ("INCR",), ("DECR",), ("GETDEL",), ("EXISTS", key), ("TOUCH", key)]
@@ -380,14 +380,14 @@ def random_call(chance):
     calls += [("MSET", text, other, more), ("UNLINK", other)]
     name, *rest = chance.choice(calls)
     words = [name, key, *rest]
-    # What takes any number of keys would take a text for one.
+    # A command with any number of keys would take a text for a key.
     if name not in ("DEL", "EXISTS", "MGET", "MSET", "TOUCH", "UNLINK") and chance.random() < 0.03:
         words = words[:-1] if chance.random() < 0.5 else [*words, text]
     return ["MSETNX", "{t}1", text, "{t}4", more] if chance.random() < 0.02 else words
 
 
 def random_calls_are_answered_as_by_redis(program):
-    """In memory and over a store, one by one and in transactions."""
+    """They are compared in memory and over a store, one by one and in transactions."""
     with tempfile.TemporaryDirectory() as room, redis_served() as other, contextlib.ExitStack() as stack:
         servers = [stack.enter_context(served(program, *it)) for it in ([], ["--data", f"{room}/data"])]
         theirs, *ours = [stack.enter_context(Client(it)) for it in (other, *(it.port for it in servers))]
@@ -405,7 +405,7 @@ def random_calls_are_answered_as_by_redis(program):
 
 
 def a_reply_of_exec_has_a_bound(program):
-    """Whatever fills it; and each change is told."""
+    """The reply may be filled by any command, and each change is still answered."""
     grown, last = ("SETRANGE", "{t}a", 59_999, "x"), ("SETRANGE", "{t}e", 2, "x")
     for words, is_full in [
         (("GETRANGE", "{t}a", 0, -1), True), (("GETSET", "{t}a", "y"), True), (("GETDEL", "{t}a"), True),
@@ -417,7 +417,7 @@ def a_reply_of_exec_has_a_bound(program):
             assert size <= 8 << 20 and answers[-1] == 3 and answers[:-1:2] == [60_000] * 300, (words, size)
             refused = [it for it in answers if isinstance(it, Refused)]
             assert bool(refused) == is_full and all(str(it).startswith("TOOLARGE") for it in refused), words
-            # What isn't answered isn't done.
+            # A command that isn't answered isn't done.
             assert client.ask("STRLEN", "{t}a") == 60_000, words
 
 
@@ -432,7 +432,7 @@ def keys_are_listed_and_flushed(program):
 
 
 def texts_for_people_are_told_as_by_redis(program):
-    """What INFO tells differs, and not how."""
+    """The values in INFO differ, but not its form."""
     with redis_served() as other, served(program) as server:
         for port in (other, server.port):
             with Client(port) as client:
@@ -477,7 +477,7 @@ def other_answers_are_named(program):
 
 
 def hints_lead_somewhere(program):
-    """Where an error says HELP, that is answered."""
+    """If an error says HELP, HELP is answered."""
     with served(program) as server, server.client() as client:
         for name in ("ACL", "CLIENT", "COMMAND", "CONFIG"):
             client.send(name, "NOSUCH")
@@ -487,7 +487,7 @@ def hints_lead_somewhere(program):
             assert told[0] == title and told[-2:] == ["HELP", "    Prints this help."], told
             words = [it.split()[0] for it in told[1:] if it[0] not in " ("]
             for word in words:
-                # Each is there; some lack arguments.
+                # Each subcommand exists; some lack arguments.
                 client.send(name, word)
                 answer = client.read()
                 assert "unknown" not in str(answer), (name, word, answer)
@@ -592,7 +592,7 @@ def words_of_sm_say_how_they_are_written(program):
             assert client.ask("SM", "AT", owner, "SET", key, 1) == "OK"
 
 
-# Lines for the shell, and what each is answered.
+# Lines for the shell, and their answers.
 SHELL = """
 look 0                  Serving 1 0 idle 1
 migrate 0 3             OK

@@ -18,13 +18,13 @@ def refused(client, *words):
 
 
 def stands(client):
-    """How each shard stands, and how many keys it has, but for its generation, and the generations."""
+    """Returns the stand of each shard and how many keys it has, without its generation; and the generations."""
     rows = client.rows("SHARDS")
     return [it[:5] + it[6:] for it in rows], [int(it[5]) for it in rows]
 
 
 def filled(client):
-    """Has keys hold texts and counts, and shards be in each stand that a dump knows."""
+    """Writes texts and counts, and brings shards into each stand that a dump knows."""
     client.piped([("SET", f"count:{it}", it) for it in range(KEYS)])
     client.piped([("SET", f"text:{it}", b"\x00line\n\r" * (it % 50)) for it in range(KEYS)])
     for step in [
@@ -46,7 +46,8 @@ def is_held(client):
 
 
 def dumps_are_loaded(program):
-    """By the server that wrote one, after other changes, and by another one; generations go on."""
+    """The server that wrote a dump loads it after other changes, and another server loads it, too. Generations go
+    on."""
     options = ["--servers", SERVERS, "--shards", SHARDS]
     with tempfile.TemporaryDirectory() as room:
         options += ["--folder", room]
@@ -68,7 +69,7 @@ def dumps_are_loaded(program):
 
 
 def other_files_are_refused(program):
-    """By name, and nothing is lost."""
+    """Each refusal has its name, and nothing is lost."""
     with tempfile.TemporaryDirectory() as room, served(program, "--folder", room, "--shards", 4) as server:
         with server.client() as client:
             client.ask("SET", "kept", 1)
@@ -93,7 +94,7 @@ def other_files_are_refused(program):
 
 
 def dumps_replace_nothing_but_dumps(program):
-    """The folder is made for them, and what isn't a dump stays as it is."""
+    """The folder is made for dumps, and a file that isn't a dump stays as it is."""
     with tempfile.TemporaryDirectory() as room:
         folder = pathlib.Path(room, "made", "dumps")
         with served(program, "--folder", folder, "--shards", 4) as server, server.client() as client:
@@ -111,7 +112,7 @@ def dumps_replace_nothing_but_dumps(program):
             for name in ("link", "folder", "fifo"):
                 assert refused(client, "SM", "DUMP", name) == "NameTaken", name
             assert refused(client, "SM", "LOAD", "fifo") == refused(client, "SM", "LOAD", "folder") == "ForeignFile"
-            # One that an earlier process left isn't written over.
+            # A file that an earlier process left isn't overwritten.
             left = [folder / f"one.{it}.part" for it in range(9)]
             for it in left:
                 it.write_text("left")

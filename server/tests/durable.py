@@ -1,9 +1,10 @@
 #!/usr/bin/env python3
-"""Data that outlives the process: restarts keep all, kills lose nothing that was answered, migrations lose no addition.
+"""Data that outlives the process: restarts keep everything, kills lose no acknowledged write, and migrations lose no
+addition.
 
     server/tests/durable.py PROGRAM
 
-A server that is killed at random under load, so often: tools/kills."""
+tools/kills kills a server at random under load, many times."""
 import collections
 import contextlib
 import itertools
@@ -31,7 +32,7 @@ SETTINGS = pathlib.Path(__file__).resolve().parents[2] / "tools/settings"
 SHARDS = 16
 KILLS = 20
 CLIENTS = 8
-# Where servers are killed a shard gets a base as often as this.
+# If servers are killed, a shard gets a base as often as this.
 BATCHES = 20
 
 
@@ -42,12 +43,12 @@ def folder():
 
 
 def over(program, data, *options):
-    """A server over this folder, until the body ends."""
+    """Runs a server over this folder, until the body ends."""
     return served.served(program, "--data", data, "--shards", SHARDS, *options)
 
 
 def stands(client):
-    """Each shard's stand and generation."""
+    """Returns each shard's stand and generation."""
     return [it[:6] for it in client.rows("SHARDS")]
 
 
@@ -94,7 +95,7 @@ def commands_answer_as_in_memory(program):
 
 
 def transactions_have_a_bound(program):
-    """That of memory too, and others by which nothing changes."""
+    """The bounds of memory mode apply, and some others. A transaction beyond one changes nothing."""
     sets = [("MSET", *itertools.chain(*((f"{{t}}{row}:{it}", "x") for it in range(511)))) for row in range(5)]
     counts = [("INCR", f"{{t}}{it}") for it in range(5)]
     with folder() as data, over(program, data) as server, server.client() as client:
@@ -111,7 +112,8 @@ def transactions_have_a_bound(program):
 
 
 def answers_have_a_bound(program):
-    """That to a command over several shards, and those to many commands of a client that reads nothing."""
+    """Tests the bound of one command over several shards, and the bound of many commands of a client that reads
+    nothing."""
     with folder() as data, over(program, data) as durable, served.served(program, "--shards", SHARDS) as memory:
         with durable.client() as one, memory.client() as other:
             many = ("MGET", *["a", "b"] * 63, "a", "c")
@@ -146,7 +148,7 @@ def a_refusal_of_one_key_hides_no_write_of_another(program):
             ]:
                 told = str(answer_of(client, words))
                 assert told.startswith(f"{name} "), (words, told)
-                # Where the disk is slow what is written may come later than the refusal of the other key.
+                # If the disk is slow, the write may come later than the refusal of the other key.
                 wait_until(lambda: answer_of(other, ("GET", "a")) == held, words)
 
 
@@ -160,7 +162,8 @@ def commands_of_a_transaction_are_counted_once(program):
                 assert after - before == 10, after - before
 
 
-# What goes over keys, of which shards have few, so that a cursor isn't told; and what transactions refuse.
+# Commands that go over keys, with few keys in each shard, so that no cursor is told; and commands that transactions
+# refuse.
 SCANS = [
     ("DBSIZE",), ("SCANRANGE", "", "", 9), ("SCANRANGE", "b", "{", 9), ("SCANRANGE", "x" * 256, "", 9),
     ("SCANRANGE", "", "", "x"), ("SCAN", 0, "COUNT", 99), ("SCAN", 0, "MATCH", "a*", "COUNT", 99), ("SCAN",),
@@ -174,7 +177,7 @@ SCANS = [
 
 
 def answer_of(client, words):
-    """What is answered; an error too."""
+    """Returns the answer, which may be an error."""
     client.send(*words)
     return client.read()
 
@@ -256,7 +259,7 @@ def keys_are_listed_and_flushed(program):
 
 
 def what_reads_first_has_no_number(program):
-    """SM CALL says so of each such command."""
+    """SM CALL refuses each such command by this name."""
     with folder() as data, over(program, data) as server, server.client() as client:
         for number, words in enumerate(
             [
@@ -281,7 +284,7 @@ def what_reads_first_has_no_number(program):
 
 
 def random_lines(chance, count):
-    """Commands on few keys, some of them in transactions of one shard."""
+    """Returns commands on few keys. Some are in transactions of one shard."""
     keys = ["a", "b", "c", "{t}1", "{t}2"]
     texts = ["1", "-7", "x", "007", "", "9223372036854775807", "two words", "12345"]
     found = []
@@ -316,7 +319,7 @@ def served_refusal(name):
 
 
 class Writer(threading.Thread):
-    """Writes to keys of its own until the server is gone, and keeps what it was answered."""
+    """Writes to its own keys until the server is gone, and keeps the answers."""
 
     def __init__(self, port, number, held):
         super().__init__(daemon=True)
@@ -352,8 +355,8 @@ class Writer(threading.Thread):
 
 
 def checked(client, held, stood):
-    """Whether each key holds what was answered last, or what was asked for and not answered, and is counted where it
-    does; and that no shard has gone back. Returns how each shard stands."""
+    """Checks that each key has the value that was acknowledged last, or one that was sent and not answered; that counts
+    are right; and that no shard has gone back. Returns the stands of the shards."""
     for key, (answered, asked) in held.items():
         found = client.ask("GET", key)
         found = None if found is None else found.decode()
@@ -369,8 +372,8 @@ def checked(client, held, stood):
 
 
 def kill(program, data, held, stood, seconds):
-    """Runs a server over the folder under load until it is killed; returns how each shard stood, and how many writes
-    were answered."""
+    """Runs a server over the folder under load until it is killed. Returns the stands of the shards, and how many
+    writes were answered."""
     command = served.server_command(program, "--data", data, "--shards", SHARDS, "--log-batches", BATCHES)
     with subprocess.Popen(command, stderr=subprocess.PIPE, stdin=subprocess.DEVNULL, text=True) as process:
         port = served.port_of(process)
@@ -396,13 +399,13 @@ def kill(program, data, held, stood, seconds):
 
 
 def parts(held):
-    """What each writer's keys hold."""
+    """The keys of each writer."""
     for number in range(CLIENTS):
         yield {key: it for key, it in held.items() if key.startswith(f"{number}:")}
 
 
 def killed(program, count, seconds, tell=lambda *_: None):
-    """Kills a server so often, each time after some such time; returns how many writes were answered."""
+    """Kills a server so often, each time after some such time. Returns how many writes were answered."""
     held, stood, total = {}, [0] * SHARDS, 0
     with folder() as data:
         for number in range(count):
@@ -439,7 +442,7 @@ def drains_and_returns_go_on_at_the_next_start(program):
                 before = owners(client)
                 other.send("SM", word, 2)
                 caught(lambda: any(doing in it for it in client.ask("SM", "SERVERS")), other)
-                # Each shard takes four steps, so this is in the midst of the first one.
+                # Each shard takes four steps, so this is in the middle of the first one.
                 time.sleep(0.1)
             with over(program, data) as server, server.client() as client:
                 are_elsewhere = word == "DRAIN"
@@ -448,7 +451,7 @@ def drains_and_returns_go_on_at_the_next_start(program):
 
 
 def restarts_wait_for_no_server_that_has_failed(program):
-    """As nobody has it be back; they do for one that restarts, until it has failed."""
+    """They do so although nobody brings the server back. The shards of a restarting server do, until it has failed."""
     with folder() as data, over(program, data) as server, server.client() as client, server.client() as other:
         for begins in ((), ("ASK", "APPROVE")):
             for word in begins:
@@ -468,7 +471,7 @@ def restarts_wait_for_no_server_that_has_failed(program):
 
 
 def shards_spread_as_far_as_they_fit(program):
-    """What has no room elsewhere stays, which is told."""
+    """A shard for which there is no room elsewhere stays, and the answer says so."""
     rows = {
         "version": 1, "bounds": ["", "g", "n", "t", "w"], "groups": [{"limit": 5, "down": 5}], "ops": 2, "kept": 9,
         "servers": [{"id": it, "domain": it, "capacity": size} for it, size in ((1, 5), (2, 1), (3, 5))],
@@ -516,8 +519,9 @@ def migrations_lose_no_addition(program):
 
 
 def spent_generations_are_told(program):
-    """As in memory, where a migration would begin: nobody is told to try again what will never be."""
-    # Of which two migrations leave nothing.
+    """This is as in memory, at the step where a migration would begin: nobody is told to try again if that can never
+    succeed."""
+    # Two migrations leave no generation.
     words = [SETTINGS, "--servers", "2", "--ranges", "1", "--ceiling", "9"]
     line = subprocess.run(words, check=True, capture_output=True, text=True).stdout
     with folder() as data, tempfile.NamedTemporaryFile("w", suffix=".json") as settings:
@@ -535,7 +539,7 @@ def owner(client, shard):
 
 
 def refused_start(program, *options):
-    """What a start says that is refused."""
+    """Returns the message of a start that is refused."""
     command = [program, "--port", "0", "--http-port", "0", *map(str, options)]
     ran = subprocess.run(command, capture_output=True, text=True, timeout=served.SECONDS)
     assert ran.returncode == 1, f"it ended with {ran.returncode}"
@@ -543,7 +547,7 @@ def refused_start(program, *options):
 
 
 def changed(file, statement):
-    """Changes the file of a folder by this statement."""
+    """Changes the file of a folder with this statement."""
     with contextlib.closing(sqlite3.connect(file)) as tables:
         tables.execute(statement)
         tables.commit()
@@ -580,7 +584,7 @@ def damaged_logs_are_refused_by_name(program):
 
 
 def changed_bits_are_refused_by_name(program):
-    """One bit of a value is another one: each key has the right value, or its shard is refused and others go on."""
+    """If one bit of a value is flipped, each key has the right value, or its shard is refused and others go on."""
     with folder() as data:
         file = pathlib.Path(data) / "durkenzo.sqlite"
         values = {f"key:{it}": f"value {it:03} ".encode() * 30 for it in range(100)}
@@ -603,7 +607,7 @@ def changed_bits_are_refused_by_name(program):
 
 
 def refused_keys(program, data, values):
-    """How many keys are refused of those that were written; all others have their values, and can be written."""
+    """Returns how many of the written keys are refused. All others must have their values, and can be written."""
     with over(program, data) as server, server.client() as client:
         told = dict(zip(values, client.piped([("GET", it) for it in values])))
         wrong = {it for it, answer in told.items() if answer != values[it] and not isinstance(answer, Refused)}
@@ -618,7 +622,7 @@ def refused_keys(program, data, values):
 
 @contextlib.contextmanager
 def small_disk(megabytes):
-    """A folder on a disk of this size; none where nothing can be mounted."""
+    """Mounts a folder on a disk of this size; yields nothing if nothing can be mounted."""
     with folder() as data:
         pathlib.Path(data).mkdir()
         mount = ["mount", "-t", "tmpfs", "-o", f"size={megabytes}m", "none", data]
@@ -641,7 +645,7 @@ def full_disks_are_refused_by_name(program):
 
 
 def full_disks_take_deletions_and_then_writes(program):
-    """After a crash too: the server starts, reads, deletes, and makes room by itself, or as it is told."""
+    """This also holds after a crash: the server starts, reads, deletes, and makes room by itself or on command."""
     for is_told in (False, True):
         with small_disk(6) as data:
             if not data:
@@ -670,7 +674,7 @@ def full_disks_take_deletions_and_then_writes(program):
 
 
 def filled_and_killed(program, data):
-    """Runs a server over the folder until its disk is full, and then it is killed; returns what was written."""
+    """Runs a server over the folder until its disk is full, and then kills it. Returns what was written."""
     command = served.server_command(program, "--data", data, "--shards", SHARDS)
     with subprocess.Popen(command, stderr=subprocess.PIPE, stdin=subprocess.DEVNULL, text=True) as process:
         try:
@@ -681,7 +685,7 @@ def filled_and_killed(program, data):
 
 
 def fill(client):
-    """Writes until the disk is full; returns what was written."""
+    """Writes until the disk is full. Returns what was written."""
     held = {}
     with served_refusal("STOREFULL"):
         for number in range(1_000):
@@ -693,7 +697,7 @@ def fill(client):
 
 
 def waiting_stops_its_own_connections_alone(program):
-    """Were others to wait too, who waits for the shard would be refused before these are answered."""
+    """If others waited too, a client that waits for the shard would be refused before these are answered."""
     with folder() as data, over(program, data, "--sync", "no") as server, server.client() as client:
         client.ask("SET", "{hot}", 1)
         shard = client.ask("SM", "KEY", "{hot}")
@@ -711,16 +715,16 @@ def waiting_stops_its_own_connections_alone(program):
             client.ask("GET", "{hot}")
 
 
-# What is asked by clients that leave at once, how many of them there are, and for how long.
+# Requests of clients that leave at once, how many such clients there are, and for how long.
 ASKED = [("GET", "a"), ("SET", "a", "x"), ("DBSIZE",), ("SCAN", "0"), ("SM", "SHARDS")]
 LEAVERS, BEGUN, BESIDE = 4, 0.4, 0.4
-# How long somebody beside them waits for an answer by the mean at most, or how many times as long as for the same
-# without them just before, and how many descriptors the server has then.
+# The longest mean time that another client may wait for an answer, or how many times the mean without them just before,
+# and the most descriptors that the server may have then.
 MOST_WAIT, TIMES, MOST_DESCRIPTORS = 0.1, 20, 500
 
 
 def mean_of(server, client, *words):
-    """How long an answer to this takes by the mean, and how many descriptors the server has meanwhile at most."""
+    """Returns the mean time of an answer to this, and the most descriptors that the server has meanwhile."""
     began, count, most = time.monotonic(), 0, 0
     while time.monotonic() < began + BESIDE or count < 10:
         client.ask(*words)
@@ -729,12 +733,12 @@ def mean_of(server, client, *words):
 
 
 def beside_leavers(server, words):
-    """How many times as long as it may an answer to GET takes by the mean beside clients that ask this and leave, how
-    long that is, and how many descriptors the server has then at most."""
+    """Returns by how much the mean time of an answer to GET exceeds its bound while clients ask this and leave, the
+    time itself, and the most descriptors that the server has then."""
     command = [sys.executable, pathlib.Path(__file__).parent / "leavers.py", str(server.port), *words]
     with contextlib.ExitStack() as stack, server.client() as client:
         client.ask("GET", "a")
-        # Who reads what is written waits for the disk.
+        # A client that reads a key being written waits for the disk.
         alone = max(mean_of(server, client, *it)[0] for it in (("GET", "a"), words))
         for _ in range(LEAVERS):
             stack.enter_context(served.begun(command))
@@ -744,7 +748,7 @@ def beside_leavers(server, words):
 
 
 def who_asks_and_leaves_holds_nobody_up(program):
-    """Others are answered soon, and descriptors are few; tried again on a machine that has other work."""
+    """Others are answered soon, and descriptors are few. The test is tried again on a machine that has other work."""
     told = []
     options = ("--threads", 2)
     with folder() as data, over(program, data, *options) as durable, served.served(program, *options) as memory:
@@ -768,7 +772,7 @@ def reset(client):
 
 
 def work_of_who_has_left_is_dropped(program):
-    """What waits for a paused shard isn't done once its client is gone, whose descriptor is closed."""
+    """A command that waits for a paused shard isn't done once its client is gone. Its descriptor is closed."""
     commands = [("INCR", "a"), ("APPEND", "a", 1), ("MSET", "a", 9, "b", 9)]
     of_store = [*commands, ("DBSIZE",), ("SM", "CALL", 7, 1, "INCR", "a")]
     for name, asked in (("--data", of_store), (None, commands)):
@@ -782,7 +786,7 @@ def work_of_who_has_left_is_dropped(program):
             for words in asked:
                 leaves = server.client()
                 leaves.send(*words)
-                # It is asked for before its client leaves.
+                # It is sent before its client leaves.
                 time.sleep(0.1)
                 reset(leaves)
             assert server.settle(before) <= before, f"{before} descriptors before, and {server.descriptors()} after"
@@ -791,7 +795,7 @@ def work_of_who_has_left_is_dropped(program):
 
 
 def who_sends_no_more_is_answered(program):
-    """It waits for a second at most, which a machine that has other work may miss now and then."""
+    """It waits for a second at most. A machine that has other work may miss that now and then."""
     sent = b"SET a 1\r\nINCR a\r\nDEL a b\r\nDBSIZE\r\nSM KEY a\r\nSM LOOK 3\r\nGET a\r\n"
     whole, count = rb"\+OK\r\n:2\r\n:1\r\n:0\r\n:\d+\r\n\+Serving .*\r\n\$-1\r\n", 20
     with folder() as data, over(program, data, "--sync", "no") as server:
@@ -826,7 +830,7 @@ def answers(client, key, value=1):
 
 
 def used(client):
-    """The bytes of memory that the server has in use."""
+    """Returns how many bytes of memory the server uses."""
     return int(re.search(rb"used_memory:(\d+)", client.ask("INFO", "memory"))[1])
 
 

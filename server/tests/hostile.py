@@ -1,5 +1,5 @@
 #!/usr/bin/env python3
-"""Clients that send what they shouldn't, or nothing, or read nothing: hostile.py PROGRAM."""
+"""Clients that send something invalid, or nothing, or don't read: hostile.py PROGRAM."""
 import contextlib
 import random
 import re
@@ -17,23 +17,23 @@ from served import SECONDS, TRIES, Client, Refused, eventually, free_port, main,
 
 SEED = 20_251_126
 SPOILT_BYTES = 1_000_000
-# Fewer where the system gives a process fewer descriptors.
+# There are fewer if the system gives a process fewer descriptors.
 IDLE = min(10_000, resource.getrlimit(resource.RLIMIT_NOFILE)[1] - 500)
-# What an idle connection with half a command may take of memory.
+# How much memory an idle connection with half a command may take.
 MOST_IDLE_BYTES = 2_000
 MEBIBYTE = 1 << 20
-# What is said of bounds behind Redis' words.
+# The text about bounds behind Redis' words.
 BYTES = b": at most 536870912 bytes of a command are read"
 ARGUMENTS = b": at most 1048576 arguments of a command are read"
-# What is said of a command that is read to its end, and refused.
+# The answer to a command that is read to its end and refused.
 MANY = "TOOLARGE a command has at most 1024 arguments, its name among them: send it in parts"
 LARGE = "TOOLARGE a command has at most 1048576 bytes: send it in parts"
-# What is said of a command that may have data take more memory, above --max-memory.
+# The answer to a command whose data may take more memory, above --max-memory.
 OVER = "OOM command not allowed when used memory > 'maxmemory'."
-# How refusals begin where the system gives no more memory, and what each client asks then.
+# The beginning of refusals if the system gives no more memory, and the commands of each client then.
 NO_MEMORY = "OOM memory was refused"
 TRIED = [("PING",), ("STRLEN", "key 0"), ("GET", "key 0"), ("APPEND", "key 1", ""), ("DEL", "nothing"), ("DBSIZE",)]
-# How many bytes a client reads that always waits for more, and for how many answers.
+# How many bytes a client reads that always waits for more, and for how many answers it waits.
 READ, OUTSTANDING = 100_000_000, 100
 PIECES = [
     b"*", b"$", b"\r\n", b"\n", b"-1", b"9223372036854775808", b"\x00", b"\xff" * 9, b'"', b"*1024\r\n", b"$65536\r\n",
@@ -48,7 +48,7 @@ COMMANDS = [
 
 
 def spoilt(chance):
-    """Commands of which some bytes are changed, lost or added."""
+    """Returns commands of which some bytes are changed, lost or added."""
     bytes_ = bytearray(b"".join(packed(*chance.choice(COMMANDS)) for _ in range(chance.randrange(1, 20))))
     for _ in range(chance.randrange(1, 5)):
         at = chance.randrange(len(bytes_))
@@ -66,7 +66,7 @@ def spoilt(chance):
 
 
 def sent(port, bytes_):
-    """Sends them, and reads what is answered until nothing comes for a while or the connection ends."""
+    """Sends them, and reads answers until nothing comes for a while or the connection ends."""
     with socket.create_connection(("127.0.0.1", port), SECONDS) as one, contextlib.suppress(ConnectionError):
         one.sendall(bytes_)
         one.shutdown(socket.SHUT_WR)
@@ -94,7 +94,7 @@ def spoilt_bytes_crash_and_leak_nothing(program):
 
 
 def each_bound_is_told(program):
-    """What is too large is answered once, and the connection ends."""
+    """A request that is too large is answered once, and the connection ends."""
     with served(program) as server:
         for bytes_, wanted in [
             (b"*1\r\n$9223372036854775808\r\n", b"-ERR Protocol error: invalid bulk length"),
@@ -113,12 +113,12 @@ def each_bound_is_told(program):
                 with contextlib.suppress(ConnectionError):
                     while more := one.recv(4096):
                         answer += more
-                # Unread bytes may have the system drop the answer with the connection.
+                # Unread bytes may make the system drop the answer with the connection.
                 assert answer == wanted + b"\r\n" or not answer and len(bytes_) > 65536, (bytes_[:30], answer)
 
 
 def too_large_commands_are_refused_alone(program):
-    """They are read to their end, of which nothing is kept, and what is behind them is done."""
+    """They are read to their end, nothing of them is kept, and the commands behind them are done."""
     with served(program) as server, server.client() as client:
         client.ask("SET", "a", 1)
         many, long = ("MGET", *["a"] * 1_100), ("SET", "a", b"v" * 2 * MEBIBYTE)
@@ -145,7 +145,7 @@ def too_large_commands_are_refused_alone(program):
 
 
 def slow_senders_are_served(program):
-    """Byte by byte, and others meanwhile."""
+    """It sends byte by byte, and others go on meanwhile."""
     with served(program) as server, server.client() as slow, server.client() as other:
         for byte in packed("SET", "slow", "text") + b"GET slow\r\n":
             slow.socket.sendall(bytes([byte]))
@@ -168,14 +168,14 @@ def who_never_reads_takes_no_memory(program):
             assert client.ask("PING") == "PONG"
             grown = server.memory() - before
         assert grown < 16 * MEBIBYTE, f"{grown} bytes more after {taken} bytes of requests"
-        # A reply has a bound too.
+        # A reply has a bound, too.
         answers = client.piped([("MGET", *["a"] * 200), ("PING",)])
         assert str(answers[0]).startswith("TOOLARGE") and answers[1] == "PONG", answers[1]
         client.ask("MULTI")
         assert set(client.piped([("GET", "a")] * 200)) == {"QUEUED"}
         answers = client.ask("EXEC")
         assert len(answers) == 200 and str(answers[-1]).startswith("TOOLARGE")
-        # Of many reads that are too large one alone is done, and writes behind them are.
+        # If many reads are too large, only one of them is done, and the writes behind them are done.
         client.ask("MULTI")
         many = [("MGET", *["a"] * 100)] * 500 + [("INCR", "{a}n"), ("SET", "{a}b", 1, "GET"), ("DEL", "a")]
         assert set(client.piped(many)) == {"QUEUED"}
@@ -190,7 +190,7 @@ def who_never_reads_takes_no_memory(program):
 
 
 def who_always_waits_for_more_takes_no_memory(program):
-    """It reads steadily, and its socket never takes all that it asked for."""
+    """It reads steadily, and its socket never takes everything that it asked for."""
     with served(program, "--threads", 1) as server, server.client() as client, socket.socket() as one:
         client.ask("SET", "a", b"v" * 60_000)
         length, before, most = len(client.raw("GET", "a")), server.memory(), 0
@@ -205,7 +205,7 @@ def who_always_waits_for_more_takes_no_memory(program):
             more = one.recv(1 << 16)
             assert more, f"the connection ended behind {read} bytes"
             read += len(more)
-            # The thread has sent then what went, and done commands.
+            # By then the thread has sent what the socket took, and done commands.
             assert client.ask("PING") == "PONG"
             if read > told:
                 told += 10 * MEBIBYTE
@@ -215,8 +215,8 @@ def who_always_waits_for_more_takes_no_memory(program):
 
 
 def scans_leave_turns_to_others(program):
-    """Many that are sent at once hold the thread for no longer than one. They and a command of another client come
-    while the server is stopped, so it alone says which are done first."""
+    """Many commands that are sent at once hold the thread no longer than one. They and a command of another client come
+    while the server is stopped, so only the server decides which are done first."""
     scans = 400
     with served(program, "--threads", 1) as server, server.client() as client:
         client.piped([("SET", f"k{it}", "v" * 1_000) for it in range(1_000)])
@@ -232,7 +232,7 @@ def scans_leave_turns_to_others(program):
                 server.process.send_signal(signal.SIGCONT)
                 found = done_of(client.read()) - before - 1
                 assert all(scanner.read()[1] == [] for _ in range(scans))
-            # That of the other client may have been looked at first.
+            # The command of the other client may have been looked at first.
             if 0 < found:
                 assert found < scans, "all were answered first"
                 return f"{found} of {scans} were answered before another client"
@@ -240,7 +240,7 @@ def scans_leave_turns_to_others(program):
 
 
 def done(client):
-    """How many commands the server has done."""
+    """Returns how many commands the server has done."""
     return done_of(client.ask("INFO", "stats"))
 
 
@@ -249,7 +249,8 @@ def done_of(info):
 
 
 def web_pages_change_nothing(program):
-    """What a browser sends for a page, with commands among it, ends the connection, and nothing of it is done."""
+    """A request that a browser sends for a page, with commands in it, ends the connection, and nothing of it is
+    done."""
     with served(program) as server:
         for head in (b"POST / HTTP/1.1\r\n\r\n", b"GET / HTTP/1.1\r\nhost: a\r\n\r\n", b"*1\r\n$4\r\npost\r\n"):
             with socket.create_connection(("127.0.0.1", server.port), SECONDS) as one:
@@ -307,7 +308,7 @@ def more_clients_than_allowed_are_told(program):
 
 
 def few_open_files_are_shared_out(program):
-    """The soft limit is raised to the hard one, and what is kept of that has the page answer however many come."""
+    """The soft limit is raised to the hard one. Reserved descriptors let the page answer, however many clients come."""
     port = free_port()
     limited = ["prlimit", "--nofile=256:1024"]
     with served(program, "--http-port", port, before=limited) as server, contextlib.ExitStack() as stack:
@@ -333,13 +334,13 @@ def quick_ends_leave_nothing(program):
                 if turn % 2:
                     one.sendall(b"PING\r\n")
                 if turn % 3 == 0:
-                    # A reset in place of an end.
+                    # It resets the connection instead of closing it.
                     one.setsockopt(socket.SOL_SOCKET, socket.SO_LINGER, b"\1\0\0\0\0\0\0\0")
         assert server.settle(before) <= before, f"{before} before, {server.descriptors()} after"
 
 
 def filled(client, value, name="key"):
-    """Sets keys of this name to the value until one is refused; returns the keys and the refusal."""
+    """Sets keys of this name to the value until one is refused. Returns the keys and the refusal."""
     keys = []
     while True:
         keys.append(f"{name} {len(keys)}")
@@ -349,7 +350,7 @@ def filled(client, value, name="key"):
 
 
 def page_of(port, path):
-    """The status of the page, and its text."""
+    """Returns the status of the page, and its text."""
     try:
         with urllib.request.urlopen(f"http://127.0.0.1:{port}/{path}", timeout=SECONDS) as answer:
             return answer.status, answer.read().decode()
@@ -358,14 +359,14 @@ def page_of(port, path):
 
 
 def beyond_its_memory(program, *options):
-    """What takes more memory is refused above --max-memory, and all else goes on."""
+    """A command that takes more memory is refused above --max-memory, and everything else goes on."""
     port, most = free_port(), 32 * MEBIBYTE
     with served(program, "--max-memory", "32mb", "--http-port", port, *options) as server:
         with server.client() as client, server.client() as other:
             assert other.piped([("MULTI",), ("SET", "{x}a", 1), ("GET", "{x}a")]) == ["OK", "QUEUED", "QUEUED"]
             keys, why = filled(client, b"v" * 50_000)
             assert why == OVER and 200 < len(keys) < 640, (why, len(keys))
-            # Of what was in use the last commands' own bytes are free again.
+            # The last commands' own bytes were in use, and are free again.
             eventually(lambda: not filled(client, b"v" * 500, "small")[0])
             told = dict(it.split(":") for it in client.ask("INFO", "memory").decode().split("\r\n") if ":" in it)
             assert most - MEBIBYTE < int(told["used_memory"]) < most + 8 * MEBIBYTE, told
@@ -380,7 +381,7 @@ def beyond_its_memory(program, *options):
             answers = [str(it) for it in other.piped([("EXEC",), ("EXEC",)])]
             wanted = ["EXECABORT Transaction discarded because of: " + OVER, "ERR EXEC without MULTI"]
             assert answers == wanted, answers
-            # A shard gives back the memory of what was deleted where that is more than what stays.
+            # A shard gives memory back if more bytes were deleted than stay.
             gone = len(keys) * 3 // 4
             assert client.ask("DEL", *keys[:gone]) == gone and client.ask("EXISTS", *keys) == len(keys) - gone
             eventually(lambda: client.piped([("SET", "a", 1)]) == ["OK"])
@@ -388,7 +389,7 @@ def beyond_its_memory(program, *options):
 
 
 def few_bytes_make_no_more_than_allowed(program):
-    """A command that makes a long value of few bytes is refused above --max-memory, too."""
+    """A command that makes a long value from few bytes is refused above --max-memory, too."""
     most = 64 * MEBIBYTE
     with served(program, "--max-memory", "64mb") as server, server.client() as client:
         for batch in range(100):
@@ -408,7 +409,7 @@ def more_memory_than_allowed_is_refused(program):
 
 
 def told_beside(server, keys):
-    """What clients are answered, or that their connection ends, where the system gives no more memory."""
+    """Returns the answers to clients, or that their connection ends, if the system gives no more memory."""
     shown = [("MGET", *keys[:100]), ("SM", "DUMP", "full"), ("SM", "SHARDS"), ("SM", "SERVERS"), ("INFO",)]
     shown += [("SCAN", 0, "COUNT", 1_000), ("SCANRANGE", "", "", 100), ("COMMAND",), ("SET", "more", b"v" * 60_000)]
     shown += [("MULTI",), *[("GET", keys[0])] * 100, *[("SET", keys[0], b"v" * 60_000)] * 15, ("EXEC",)]
@@ -422,8 +423,8 @@ def told_beside(server, keys):
 
 
 def without_memory(program, limit, *options):
-    """Where the system gives no more memory, nothing ends the process, and all that it holds stays; returns how many
-    keys that are."""
+    """If the system gives no more memory, nothing ends the process, and all its data stays. Returns how many keys there
+    are."""
     port = free_port()
     with contextlib.ExitStack() as stack:
         options = ("--threads", 2, "--http-port", port, *options)
@@ -431,7 +432,7 @@ def without_memory(program, limit, *options):
         clients = [stack.enter_context(server.client()) for _ in range(20)]
         keys, why = filled(clients[0], b"v" * 60_000)
         assert why.startswith(NO_MEMORY) and len(keys) > 200, (why, len(keys))
-        # Those who are there are answered, and those who come are, or are told why not.
+        # Clients that are there are answered. New clients are answered, or told why not.
         for client in clients:
             client.socket.sendall(b"".join(packed(*it) for it in TRIED) + packed("MGET", *keys[:100]))
         for client in clients:
@@ -445,7 +446,7 @@ def without_memory(program, limit, *options):
                 one.send("PING")
                 assert str(one.read()).startswith(("PONG", "OOM"))
         assert page_of(port, "healthz")[0] == 200 and page_of(port, "metrics")[0] in (200, 503)
-        # With some of it gone all else is there.
+        # After some keys are deleted, all others are there.
         gone = len(keys) * 3 // 4
         assert sum(clients[0].piped([("DEL", it) for it in keys[:gone]])) == gone
         assert all(clients[1].ask("GET", it) == b"v" * 60_000 for it in keys[gone:])
@@ -461,12 +462,12 @@ def refused_memory_is_an_answer(program):
 
 
 def may_be(answer):
-    """Whether it is no refusal but for want of memory."""
+    """Returns whether the answer is no refusal, or one for lack of memory."""
     return not isinstance(answer, Refused) or str(answer).startswith(NO_MEMORY)
 
 
 def what_clients_took_is_given_back(program):
-    """When they are gone the process has little more memory than before."""
+    """When they are gone, the process has little more memory than before."""
     with served(program) as server:
         before = server.memory()
         with contextlib.ExitStack() as stack:

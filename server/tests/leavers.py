@@ -1,8 +1,8 @@
 #!/usr/bin/env python3
-"""Clients that ask and leave, until they are told to end by the end of their input: leavers.py PORT WORD... One after
+"""Clients that ask and leave, until the end of their input tells them to stop: leavers.py PORT WORD... One after
 another connects, sends the command of these words five times, and closes without reading. It says when they begin.
 
-What is measured beside them runs in another process, so that they take no turn of its interpreter."""
+The measurement beside them runs in another process, so that they take no turn of its interpreter."""
 import contextlib
 import os
 import socket
@@ -17,7 +17,7 @@ TIMES = 5
 
 def main():
     port, sent = int(sys.argv[1]), served.packed(*sys.argv[2:]) * TIMES
-    # Those beside whom they are have the processors first.
+    # The clients beside them get the processors first.
     os.nice(10)
 
     def again():

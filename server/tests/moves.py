@@ -13,8 +13,8 @@ KEYS = [f"count:{it}" for it in range(200)]
 
 
 def add(port, number, stop, told):
-    """Adds 1 to keys until it is told to stop; tells how many additions were acknowledged, how many refused, what one
-    of those was answered, and the longest time of a pipeline, in milliseconds."""
+    """Adds 1 to keys until it is told to stop. Reports how many additions were acknowledged, how many were refused, an
+    example of a refusal, and the longest time of a pipeline in milliseconds."""
     done, refused, example, longest, turn = 0, 0, "", 0, number
     with Client(port) as client:
         while not stop.is_set():
@@ -30,7 +30,7 @@ def add(port, number, stop, told):
 
 
 def loaded(server, work):
-    """Does the work while clients add; returns a sentence on what they came to."""
+    """Does the work while clients add. Returns a sentence about their results."""
     stop, told = multiprocessing.Event(), multiprocessing.Queue()
     clients = [multiprocessing.Process(target=add, args=(server.port, it, stop, told)) for it in range(CLIENTS)]
     for client in clients:
@@ -69,7 +69,7 @@ def migrations_are_not_noticed(program):
 
 
 def slow_migrations_are_forwarded(program):
-    """With a pause between their steps, so that requests come in each phase."""
+    """There is a pause between their steps, so that requests come in each phase."""
 
     def migrate(server):
         with server.client() as control:
@@ -86,7 +86,7 @@ def slow_migrations_are_forwarded(program):
 
 
 def restarts_are_not_noticed(program):
-    """All servers in turn, three times."""
+    """All servers restart in turn, three times."""
 
     def restart(server):
         with server.client() as control:
@@ -101,7 +101,7 @@ def restarts_are_not_noticed(program):
 
 
 def restarts_at_once_are_not_noticed(program):
-    """Two servers at a time, as the caps allow, and every shard comes home."""
+    """Two servers restart at a time, as the caps allow, and every shard comes home."""
 
     def restart(server):
         with server.client() as one, server.client() as other:
@@ -124,14 +124,15 @@ def servers_of(client):
 
 
 def timed(client):
-    """How each server stands, and how long that took."""
+    """Returns the state of each server, and how long the query took."""
     began = time.monotonic()
     return servers_of(client), time.monotonic() - began
 
 
 @again
 def others_are_answered_while_a_server_restarts(program):
-    """SM SERVERS tells how far it is; a second restart waits for its turn, and another one of the same server is refused."""
+    """SM SERVERS tells how far a restart has come. A second restart waits for its turn, and another one of the same
+    server is refused."""
     options = ["--servers", 3, "--shards", 12, "--pace", 40]
     with served(program, *options) as server, server.client() as control:
         alone = max(timed(control)[1] for _ in range(20))
@@ -161,7 +162,7 @@ def others_are_answered_while_a_server_restarts(program):
 
 
 def a_restart_that_nobody_lets_go_is_refused(program):
-    """The cap's server is away for no restart that goes on, so waiting would mend nothing."""
+    """The cap's server isn't away for a restart that goes on, so waiting wouldn't help."""
     with served(program, "--servers", 3) as server, server.client() as control:
         assert control.ask("SM", "ASK", 1) == "OK" and control.ask("SM", "APPROVE", 1) == "OK"
         control.send("SM", "RESTART", 2)
@@ -182,7 +183,7 @@ def domains_hold_back_restarts(program):
 
 
 def shards_spread(program):
-    """Until no server has two shards more than another one."""
+    """The spread goes on until no server has two shards more than another one."""
     with served(program, "--servers", 4, "--shards", 16) as server, server.client() as control:
         assert len(control.ask("SM", "DRAIN", 3)) == 4
         assert len(control.ask("SM", "SPREAD")) == 4 and control.ask("SM", "SPREAD") == []
@@ -205,7 +206,8 @@ def a_migration_that_somebody_gives_up_is_told(program):
 
 @again
 def a_shard_whose_new_owner_fails_is_served_again(program):
-    """By another server, or by that one if it is back before; what somebody paused by hand stays so."""
+    """It is resumed at another server, or at that one if it is back before. A shard that somebody paused by hand stays
+    paused."""
     options = ["--servers", 3, "--shards", 3, "--pace", 150]
     with served(program, *options) as server, server.client() as control, server.client() as client:
         assert control.ask("SM", "PAUSE", 1) == "OK"
@@ -221,7 +223,8 @@ def a_shard_whose_new_owner_fails_is_served_again(program):
                 assert told == "OK" and control.ask("SM", "LOOK", 0).startswith("Serving 2"), told
             else:
                 assert str(client.read()).startswith("REFUSED NotMoved")
-                assert control.ask("SM", "LOOK", 0).startswith("Serving 1")
+                found = control.ask("SM", "LOOK", 0)
+                assert found.startswith(("Serving 1", "Serving 3")), found
                 assert control.ask("SM", "BACK", 2) == "OK"
         assert control.ask("SM", "LOOK", 1).startswith("Paused 2")
 
@@ -246,7 +249,7 @@ def plans_move_nothing(program):
 
 @again
 def paused_shards_hold_back_who_asks_for_them(program):
-    """Others go on, and a command that waited is done at the resume, or refused after --wait."""
+    """Other shards go on. A command that waited is done at the resume, or refused after --wait."""
     with served(program) as server, server.client() as control, server.client() as client:
         assert control.ask("SET", "held", 1) == "OK"
         shard = control.ask("SM", "KEY", "held")
@@ -268,7 +271,7 @@ def paused_shards_hold_back_who_asks_for_them(program):
 
 
 def failed_servers_are_told(program):
-    """Who asks for a failed server's shard waits until that is drained, or the server is back."""
+    """A client of a failed server's shard waits until that server is drained or back."""
     keys = KEYS[:40]
     with served(program, "--wait", 300) as server, server.client() as control:
         assert control.ask("SM", "FAIL", 1) == "OK"
@@ -287,7 +290,7 @@ def failed_servers_are_told(program):
 
 
 def vacant_shards_are_placed(program):
-    """Who asks for a shard that nobody owns waits until it has an owner."""
+    """A client of a shard without an owner waits until it has one."""
     options = ["--vacant", "--shards", 4]
     with served(program, *options, "--wait", 300) as server, server.client() as client:
         client.send("INCR", "a")
@@ -300,7 +303,7 @@ def vacant_shards_are_placed(program):
 
 
 def requests_at_a_server_go_as_in_scripts(program):
-    """A migration step by step, seen by clients with old maps."""
+    """A migration step by step, as clients with old maps see it."""
     with served(program, "--servers", 3, "--bounds", "m") as server, server.client() as client:
 
         def at(number):
@@ -317,7 +320,7 @@ def requests_at_a_server_go_as_in_scripts(program):
 
 
 def each_word_tells_how_it_is_written(program):
-    """SM HELP has each word once or twice, and a word without what it needs is refused with its form."""
+    """SM HELP has each word once or twice. If a word lacks arguments, it is refused with its form."""
     with served(program) as server, server.client() as client:
         forms = [it.decode().removeprefix("SM ")[:16].strip() for it in client.ask("SM", "HELP")]
         assert len(forms) == len(set(forms)) > 25, forms
@@ -334,7 +337,7 @@ def each_word_tells_how_it_is_written(program):
 
 @again
 def a_server_ends_within_a_restart(program):
-    """Which would take minutes, by the pause between the steps of its migrations."""
+    """It would take minutes, because of the pause between the steps of its migrations."""
     with served(program, "--pace", 1_000) as server, server.client() as control:
         control.send("SM", "RESTART")
         time.sleep(0.3)
@@ -348,7 +351,7 @@ def a_server_ends_within_a_restart(program):
 
 @again
 def a_server_ends_after_what_it_was_sent(program):
-    """A signal in the midst of a load ends it with status 0, and no answer is cut."""
+    """A signal in the middle of a load ends it with status 0, and no answer is cut."""
     with served(program) as server:
         load = ["redis-benchmark", "-p", str(server.port), "-t", "set", "-n", "10000000", "-q"]
         with subprocess.Popen(load, stdout=subprocess.DEVNULL, stderr=subprocess.DEVNULL) as process:
@@ -363,7 +366,7 @@ def a_server_ends_after_what_it_was_sent(program):
 
 
 def a_stop_answers_all_that_came(program):
-    """Commands that came before the signal, by more connections than a thread looks at at once."""
+    """Commands that came before the signal are answered, on more connections than a thread looks at at once."""
     options = ["--threads", 1, "--grace", SECONDS * 1_000]
     with served(program, *options) as server, contextlib.ExitStack() as stack:
         clients = [stack.enter_context(server.client()) for _ in range(400)]

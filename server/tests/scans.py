@@ -1,4 +1,4 @@
-"""SCAN, SCANRANGE and DBSIZE by redis-py, of any server: each key that stays is given once, in order."""
+"""SCAN, SCANRANGE and DBSIZE with redis-py, of any server: each key that stays is given once, in order."""
 import itertools
 
 import served
@@ -6,19 +6,19 @@ from served import Refused
 
 COUNT = 700
 KEYS = sorted(f"k{it}" for it in range(COUNT))
-# How keys go to shards.
+# The rules that assign keys to shards.
 OPTIONS = ([], ["--ranges", 8], ["--bounds", "k1,k25,k9"], ["--ranges", 5, "--hash"])
 
 
 def of(server):
-    """A client of the server, by redis-py, which what doesn't ask for one does without."""
+    """Returns a client of the server, with redis-py. Tests without such a client don't need redis-py."""
     import redis
 
     return redis.Redis(port=server.port, decode_responses=True)
 
 
 def written(client):
-    """Writes each key, with its number, and another one that goes again."""
+    """Writes each key, with its number, and another one that is deleted again."""
     with client.pipeline(transaction=False) as pipe:
         for key in KEYS:
             pipe.set(key, key[1:])
@@ -28,7 +28,7 @@ def written(client):
 
 
 def checked(client, told=""):
-    """Sees that these are the keys, and those alone."""
+    """Checks that there are these keys and no others."""
     assert sorted(client.scan_iter(count=7)) == KEYS, told
     assert sorted(client.scan_iter("k1*", count=500)) == [it for it in KEYS if it.startswith("k1")], told
     assert client.scan(0, _type="list") is not None and list(client.scan_iter(_type="list")) == []
@@ -42,7 +42,7 @@ def checked(client, told=""):
 
 
 def pages(client, count):
-    """The keys of each SCAN, until the cursor is 0."""
+    """Yields the keys of each SCAN, until the cursor is 0."""
     cursor = b"0"
     for number in itertools.count():
         assert number < 10_000, "SCAN has no end"
@@ -53,14 +53,14 @@ def pages(client, count):
 
 
 def scanned(client, count=100):
-    """All keys, each of which is given once."""
+    """Returns all keys. Each must be given once."""
     found = list(itertools.chain(*pages(client, count)))
     assert len(set(found)) == len(found), "a key is given twice"
     return set(found)
 
 
 def cursors_stay_known(server):
-    """Where others scan the keys that were written, more often than cursors are kept."""
+    """Meanwhile others scan the written keys, more often than cursors are kept."""
     with server.client() as client, server.client() as other:
         cursor, _ = client.ask("SCAN", 0, "COUNT", 1)
         told = other.piped([("SCAN", 0, "COUNT", 1)] * 5_000)
@@ -69,8 +69,8 @@ def cursors_stay_known(server):
 
 
 def keys_are_listed_and_flushed(server, most=10_000):
-    """KEYS gives what SCAN gives, or says to use that, of more than this; FLUSHDB leaves nothing, and both are refused
-    by MULTI."""
+    """KEYS returns the same as SCAN, or above its bound says to use SCAN. FLUSHDB leaves nothing, and MULTI refuses
+    both."""
     client = of(server)
     assert client.flushdb() and client.dbsize() == 0 and client.keys() == []
     written(client)
@@ -104,7 +104,7 @@ def too_many_keys_are_refused(client, most):
 
 
 def a_flush_that_stops_is_told(server, shards):
-    """Where a shard is paused for longer than a command waits; and it says whether others are empty."""
+    """A shard is paused for longer than a command waits. The refusal says whether other shards are empty already."""
     keys = [f"k{it}" for it in range(200)]
     with server.client() as client:
         client.piped([("SET", it, 1) for it in keys])
@@ -118,7 +118,7 @@ def a_flush_that_stops_is_told(server, shards):
 
 
 def a_flush_waits(server):
-    """For a shard that is paused."""
+    """The command waits for a paused shard."""
     with server.client() as client, server.client() as waiting:
         client.piped([("SET", it, 1) for it in range(200)])
         client.ask("SM", "PAUSE", 0)
@@ -128,7 +128,7 @@ def a_flush_waits(server):
 
 
 def refused(server, *words):
-    """The name by which the command is refused."""
+    """Returns the name of the command's refusal."""
     with served.Client(server.port) as client:
         try:
             client.ask(*words)

@@ -1,6 +1,6 @@
 #!/usr/bin/env python3
-"""Lines of random scripts as commands: scripts.py PROGRAM. Each answer has to be the one that scripts have from sm_cli
-model, where that was built, and else from the plain model of tools/random-scripts."""
+"""Lines of random scripts as commands: scripts.py PROGRAM. Each answer must be the one that scripts have from sm_cli
+model, if that was built, and otherwise from the plain model of tools/random-scripts."""
 import collections
 import json
 import pathlib
@@ -19,7 +19,7 @@ SCRIPTS = runs.loaded("random-scripts")
 SM_CLI = TOP / "crates/sm_cli/out/sm_cli"
 COUNT, LINES = 24, 500
 EXECUTED = re.compile(rb" @(\d+)#\d+\Z")
-# What a client is told where a script is answered so.
+# The refusal that a client gets, by the answer to the script.
 WAITED = {"SHARDPAUSED": b"Paused", "SHARDVACANT": b"Vacant", "SERVERDOWN": b"Unreachable"}
 REPLIES = {
     "ERR value is not an integer or out of range": b"WrongKind",
@@ -30,7 +30,7 @@ WORDS = {b"get": "GET", b"put": "SET", b"append": "APPEND", b"inc": "INCRBY", b"
 
 
 def command_of(line, bounds):
-    """The line as a command. A script's scan stays within the shard of its lower bound."""
+    """Returns the line as a command. A script's scan stays within the shard of its lower bound."""
     word, at, values = SCRIPTS.call_of(line)
     if word not in WORDS:
         # A script's plans move nothing.
@@ -41,7 +41,7 @@ def command_of(line, bounds):
 
 
 def held(value):
-    """A value as scripts show it in a scan: those of these scripts are counts where they are numbers."""
+    """Returns a value as scripts show it in a scan. Values of these scripts are counts if they are numbers."""
     return b"c" + value if SCRIPTS.SIGNED.match(value) else b"t%d:%s" % (len(value), value)
 
 
@@ -64,7 +64,7 @@ def scanned(pairs):
 
 
 def told(word, answer):
-    """The server's answer in the words of scripts."""
+    """Returns the server's answer in the words of scripts."""
     if isinstance(answer, Refused):
         return refused(str(answer))
     texts = {
@@ -75,13 +75,14 @@ def told(word, answer):
 
 
 def wanted(answer):
-    """The script's answer without what a client isn't told: the server and the place, and the number behind a name."""
+    """Returns the script's answer without the parts that a client isn't told: the server and the place, and the number
+    behind a name."""
     answer = EXECUTED.sub(b"", answer)
     return b" ".join(answer.split(b" ")[:2]) if answer.startswith(b"refused ") else answer
 
 
 def by_model(script, asked):
-    """The model's answers, which sm_cli gives too where it was built."""
+    """Returns the model's answers. If sm_cli was built, it must give the same."""
     answers = [answer for _, answer in asked]
     if SM_CLI.is_file():
         lines = [json.dumps(script.settings).encode(), *(line for line, _ in asked)]
@@ -91,7 +92,7 @@ def by_model(script, asked):
 
 
 def compare(program, seed):
-    """Has a server do the lines of a random script; returns how many."""
+    """Sends the lines of a random script to a server. Returns how many."""
     script = SCRIPTS.Script(seed, is_served=True)
     asked = list(script.answered(LINES))
     answers = by_model(script, asked)
@@ -113,7 +114,7 @@ def compare(program, seed):
 
 
 def scripts_are_answered_as_by_the_model(program):
-    """And each server executed as many requests as in the script."""
+    """Each server must also have executed as many requests as in the script."""
     lines = sum(compare(program, seed) for seed in range(1, COUNT + 1))
     return f"{COUNT} scripts, {lines} lines, by {'sm_cli' if SM_CLI.is_file() else 'the plain model'}"
 

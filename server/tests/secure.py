@@ -1,5 +1,5 @@
 #!/usr/bin/env python3
-"""TLS, passwords and roles, and those who show neither certificate nor password: secure.py PROGRAM."""
+"""TLS, passwords and roles, and clients that show neither certificate nor password: secure.py PROGRAM."""
 import contextlib
 import functools
 import os
@@ -35,29 +35,30 @@ from served import (
 
 SM = pathlib.Path(__file__).resolve().parent.parent.parent / "sm"
 HOST = "127.0.0.1"
-# Another address of this machine, at which a server is that listens at all.
+# Another address of this machine, at which a server is reached if it listens at all addresses.
 ELSEWHERE = "127.0.0.2"
 SEED = 20_261_126
-# Connections by TLS at a time, and what one may take of memory.
+# The number of TLS connections at a time, and how much memory one may take.
 MANY = 500
 MOST_BYTES = 64 << 10
-# Strangers at a time, and what one may take.
+# The number of strangers at a time, and how much memory one may take.
 STRANGERS = 60
 MOST_OF_A_STRANGER = 192 << 10
-# Of a value, and of how many in a pipeline.
+# The length of a value, and how many there are in a pipeline.
 LONG, PIPED = 60_000, 200
-# How many milliseconds strangers have for their passwords, by which nobody who has one is cut off on a crowded machine.
+# How many milliseconds strangers have for their passwords. Nobody who has one is cut off on a crowded machine.
 LOGIN = 10_000
-# For how long nobody may be held up by others, and how often one may try to be let in.
+# The longest time that others may hold up a client, and how often a client may try to log in.
 SOON, TRIES = 5, 4
-# Who means no good, and the others; how many certificates of authorities each of the former shows.
+# The number of assailants and of other clients, and how many certificates of authorities each assailant shows.
 ASSAILANTS = OTHERS = 8
 AUTHORITIES = 24
 
 
 @functools.cache
 def certificates():
-    """A folder with an authority `ca`, certificates of it for `server` and `client`, and one `foreign` by itself."""
+    """Makes a folder with an authority `ca`, certificates from it for `server` and `client`, and a `foreign` one that
+    is self-signed."""
     folder = pathlib.Path(tempfile.mkdtemp(prefix="durkenzo-secure-"))
 
     def openssl(*words):
@@ -77,9 +78,9 @@ def certificates():
 
 @functools.cache
 def hostile_chains():
-    """Files with a key, its certificate, and more of authorities than anybody has, by a name of how they hang together:
-    all of one name with keys of their own, that of nobody or of the authority that is trusted, or each vouched for by
-    the one behind it."""
+    """Makes files with a key, its certificate, and more certificates of authorities than anybody has, by the name of
+    their relation: all with the same name and their own keys, the name being nobody's or that of the trusted authority;
+    or each vouched for by the one behind it."""
     folder = certificates()
 
     def openssl(*words):
@@ -110,12 +111,12 @@ def file(name):
 
 
 def with_tls(*more):
-    """The options by which the server speaks TLS."""
+    """Returns the options by which the server speaks TLS."""
     return ["--tls-cert", file("server.pem"), "--tls-key", file("server.key"), *more]
 
 
 def context(own=None):
-    """What a client trusts, and what it shows."""
+    """Returns a client's trusted authority and certificate."""
     tls = ssl.create_default_context(cafile=file("ca.pem"))
     if own:
         tls.load_cert_chain(file(f"{own}.pem"), file(f"{own}.key"))
@@ -123,7 +124,7 @@ def context(own=None):
 
 
 class TlsClient(Client):
-    """A connection by TLS."""
+    """A TLS connection."""
 
     def __init__(self, port, tls=None):
         plain = socket.create_connection((HOST, port), SECONDS)
@@ -133,7 +134,7 @@ class TlsClient(Client):
 
 
 def refused(client, *words):
-    """By which name the command is refused."""
+    """Returns the name of the command's refusal."""
     client.send(*words)
     answer = client.read()
     assert isinstance(answer, Refused), (words, answer)
@@ -141,12 +142,12 @@ def refused(client, *words):
 
 
 def connected(server):
-    """A connection on which nothing is sent yet."""
+    """Returns a connection on which nothing was sent yet."""
     return socket.create_connection((HOST, server.port), SECONDS)
 
 
 def is_ended(one):
-    """Whether the other side ends the connection in time, whatever it says before."""
+    """Returns whether the other side ends the connection in time, whatever it says before."""
     with contextlib.suppress(ConnectionError, ssl.SSLError):
         while one.recv(4096):
             pass
@@ -185,7 +186,7 @@ def clients_of_redis_speak_tls(program):
 
 
 def the_page_is_on_this_machine_where_clients_need_a_password(program):
-    """It asks for no password, so from another address it is reached only if that is asked for."""
+    """The page asks for no password, so it can be reached from another address only on request."""
 
     def answers(host, port):
         with contextlib.suppress(OSError):
@@ -241,20 +242,20 @@ def what_is_no_tls_gets_nothing(program):
         for bytes_ in spoilt:
             with connected(server) as one, contextlib.suppress(ConnectionError):
                 one.sendall(bytes_)
-                # The server may have been quicker to end it.
+                # The server may have ended it before.
                 with contextlib.suppress(OSError):
                     one.shutdown(socket.SHUT_WR)
                 said = b""
                 while more := one.recv(4096):
                     said += more
-                # An alert is all that TLS says there.
+                # TLS says only an alert there.
                 assert len(said) <= 7 and said[:1] in (b"", b"\x15"), (bytes_[:20], said)
         assert client.ask("PING") == "PONG" and server.settle(before) <= before
 
 
 @again
 def who_stalls_holds_nobody_up(program):
-    """Half a handshake, or none, and no password: others go on, and these are ended in time."""
+    """Clients send half a handshake, or none, and no password. Others go on, and these are ended in time."""
     options = with_tls("--login-time", LOGIN)
     with environment(DURKENZO_PASSWORD="secret"), served(program, *options) as server, contextlib.ExitStack() as stack:
         client = stack.enter_context(TlsClient(server.port))
@@ -276,15 +277,14 @@ def who_stalls_holds_nobody_up(program):
         assert slow.read() == "OK" and int(slow.read()) > 0
         within(longest, SOON, "another client")
         assert all(is_ended(it) for it in [*stalled, unknown.socket])
-        # Two clients are left, the one from before among them.
+        # Two clients are left, including the one from before.
         assert server.settle(before + 1) == before + 1
         assert client.ask("PING") == slow.ask("PING") == "PONG"
         return f"at most {longest * 1000:.0f} ms for others"
 
 
 def hostile_chains_hold_nobody_up(program):
-    """Whoever shows no certificate, or many of authorities that nobody knows, costs others no time, and leaves
-    nothing."""
+    """A client without a certificate, or with many of unknown authorities, costs others no time, and leaves nothing."""
     options = with_tls("--tls-ca", file("ca.pem"))
     with served(program, *options) as server, contextlib.ExitStack() as stack:
         clients = [stack.enter_context(TlsClient(server.port, context("client"))) for _ in range(OTHERS)]
@@ -293,7 +293,7 @@ def hostile_chains_hold_nobody_up(program):
             words = ["chain", ASSAILANTS, chain] if chain else ["bare", ASSAILANTS]
             told.append(f"{name} {slowest_beside(clients, server.port, *words) * 1000:.1f} ms")
         assert server.settle(before) <= before
-        # A processor may take a while for what came last.
+        # A processor may take a while for the last requests.
         eventually(lambda: server.used_in_a_second() < 0.5)
         with TlsClient(server.port, context("client")) as client:
             assert f"connected_clients:{OTHERS + 1}\r" in client.ask("INFO").decode()
@@ -302,8 +302,9 @@ def hostile_chains_hold_nobody_up(program):
 
 @again
 def who_is_in_a_handshake_is_a_stranger(program):
-    """As many as there are places for strangers say nothing, and as many send half a handshake: neither keeps out who
-    shows a certificate and gives the password, or holds up others. The first gives way, wherever it is."""
+    """As many clients as there are places for strangers say nothing, and as many send half a handshake. Neither keeps
+    out a client with a certificate and the password, and neither holds up others. The first one gives way, wherever it
+    is."""
     most, places = 300, 75
     options = with_tls("--tls-ca", file("ca.pem"), "--max-clients", most, "--login-time", 600_000)
     with environment(DURKENZO_PASSWORD="secret"), served(program, *options) as server, contextlib.ExitStack() as stack:
@@ -313,7 +314,7 @@ def who_is_in_a_handshake_is_a_stranger(program):
 
         def known():
             began = time.monotonic()
-            # Where a machine has other work, so many others may come meanwhile that one gives way.
+            # If the machine has other work, so many others may come meanwhile that one gives way.
             for _ in range(TRIES):
                 with contextlib.suppress(OSError, Refused):
                     client = met()
@@ -343,7 +344,7 @@ def who_is_in_a_handshake_is_a_stranger(program):
 
 
 def half_handshakes_take_little(program):
-    """Each says that its first message is as long as one may be, and sends as much of it as is taken."""
+    """Each says that its first message is as long as allowed, and sends as much of it as is taken."""
     begun = b"\x16\x03\x01\x3f\xfc" + b"\x01\x02\x00\x00" + bytes(0x3FF8)
     begun += b"\x16\x03\x01\x3f\x00" + bytes(0x3F00)
     with served(program, *with_tls()) as server, contextlib.ExitStack() as stack:
@@ -357,7 +358,7 @@ def half_handshakes_take_little(program):
             assert client.ask("PING") == "PONG"
         each = (server.memory() - before) / STRANGERS
         assert each < MOST_OF_A_STRANGER, f"{each:.0f} bytes each"
-        # More isn't taken.
+        # No more is taken.
         for one in stalled:
             one.sendall(begun[-0x3F05:])
         assert all(is_ended(it) for it in stalled) and server.settle(descriptors) <= descriptors
@@ -365,7 +366,7 @@ def half_handshakes_take_little(program):
 
 
 def no_session_is_taken_up_again(program):
-    """Nor does a client have a second handshake over the same connection."""
+    """A client can't have a second handshake on the same connection either."""
     with served(program, *with_tls()) as server:
         for version in (ssl.TLSVersion.TLSv1_2, ssl.TLSVersion.TLSv1_3):
             tls = context()
@@ -384,7 +385,8 @@ def no_session_is_taken_up_again(program):
 
 
 def is_told_of_no_place(server):
-    """Whether who connects is told so, and isn't let go as a stranger that has said nothing for long."""
+    """Returns whether a new client is told that there is no place, and isn't closed as a stranger that has said nothing
+    for long."""
     with server.client() as one, contextlib.suppress(ConnectionError):
         return "max number of clients" in str(one.read())
 
@@ -411,7 +413,7 @@ def strangers_leave_room_for_others(program):
         alone, before = max(took), server.at_rest()
         first = stack.enter_context(server.client())
         assert refused(first, "PING") == "NOAUTH"
-        # Of many that say nothing the first give way: there are no more than a quarter, beside the others.
+        # If many say nothing, the first ones give way: there are no more than a quarter, beside the others.
         silent = [stack.enter_context(connected(server)) for _ in range(2_000)]
         assert str(first.read()) == "ERR max number of clients reached" and is_ended(first.socket)
         assert server.settle(before + 75) <= before + 75, server.descriptors()
@@ -422,7 +424,7 @@ def strangers_leave_room_for_others(program):
         within(max(took), max(0.5, 5 * alone), "to be let in")
         assert all(it.ask("PING") == "PONG" for it in clients)
         clients += [known() for _ in range(100)]
-        # Who is answered that it is let in, or has left, is counted so a moment later.
+        # A client that has logged in or left is counted so a moment later.
         eventually(lambda: is_told_of_no_place(server))
         assert all(is_ended(it) for it in silent)
         # A place behind the password isn't one before it.
@@ -434,7 +436,7 @@ def strangers_leave_room_for_others(program):
 
 @again
 def wrong_passwords_take_time(program):
-    """Guesses wait ever longer, of a connection and of an address, and nobody else does."""
+    """Guesses wait ever longer, on a connection and from an address. Others don't wait."""
     passwords = {"DURKENZO_CONTROL_PASSWORD": "master", "DURKENZO_PASSWORD": "secret"}
     with environment(**passwords), served(program, "--threads", 1) as server, contextlib.ExitStack() as stack:
         other, guesser = stack.enter_context(server.client()), stack.enter_context(server.client())
@@ -451,21 +453,21 @@ def wrong_passwords_take_time(program):
         assert 10 * (1 + 2 + 4 + 8 + 16 + 32 + 64) / 1000 <= took, took
         within(took, 10, "ten guesses")
         within(longest, 0.5, "another client")
-        # Who connects anew waits as well, and is let in.
+        # A client that connects anew waits as well, and then logs in.
         began, count = time.monotonic(), 0
         while time.monotonic() - began < 2:
             with server.client() as one, contextlib.suppress(TimeoutError):
                 one.socket.settimeout(0.01)
                 asked = time.monotonic()
                 one.send("AUTH", "wrong")
-                # One that was read late isn't answered at once.
+                # A password that was read late isn't answered at once.
                 count += isinstance(one.read(), Refused) and time.monotonic() - asked < 0.02
         assert count == 0, f"{count} guesses were answered at once"
         with server.client() as one:
             began = time.monotonic()
             assert one.ask("AUTH", "secret") == "OK"
             within(time.monotonic() - began, 3, "the right password")
-        # No transaction is a way round.
+        # A transaction doesn't avoid the wait.
         other.ask("MULTI")
         assert set(other.piped([("AUTH", "control", "wrong")] * 500)) == {"QUEUED"}
         assert {str(it)[:20] for it in other.ask("EXEC")} == {"ERR wrong passwords "}
@@ -486,7 +488,7 @@ def little_is_taken_before_a_password(program):
 
 
 def strangers_who_read_nothing_take_little(program):
-    """Each asks for a mebibyte and more of answers, by few bytes, and its socket takes few of them."""
+    """Each asks for more than a mebibyte of answers with few bytes, and its socket takes few of them."""
     with environment(DURKENZO_PASSWORD="secret"), served(program) as server, contextlib.ExitStack() as stack:
         before = server.memory()
         for _ in range(STRANGERS):
@@ -518,7 +520,8 @@ def many_connections_by_tls(program):
 
 
 def exchanged(one, bytes_, wanted):
-    """Sends these, and reads as soon as there is something, until as many bytes came as are wanted or none come."""
+    """Sends these bytes, and reads as soon as there is something, until as many bytes came as are wanted or none
+    come."""
     found, left = bytearray(), memoryview(bytes_)
     one.setblocking(False)
     while len(found) < wanted:
@@ -538,7 +541,7 @@ def large_values_go_both_ways(program):
     with served(program, *with_tls()) as server, TlsClient(server.port) as client:
         assert client.ask("SET", "k", values[-1]) == "OK"
         commands = b"".join(packed("SET", "k", it, "GET") for it in values)
-        # Each is answered by the one before it.
+        # Each command is answered by the one before it.
         wanted = b"".join(b"$%d\r\n%s\r\n" % (len(it), it) for it in [values[-1], *values[:-1]])
         assert exchanged(client.socket, commands, len(wanted)) == wanted
         return f"{len(wanted)} bytes each way"
@@ -552,7 +555,7 @@ def a_stop_answers_what_came(program):
         time.sleep(0.2)
         server.process.terminate()
         assert [client.read() for _ in range(100)] == [b"v" * LONG] * 100 and client.read() == "PONG"
-        # The end is told, so that it isn't taken for a cut.
+        # TLS announces the end, so that it isn't taken for a cut.
         assert client.socket.recv(1) == b""
         server.process.wait(SECONDS)
         server.is_alive = lambda: True
@@ -574,7 +577,7 @@ def roles_are_kept_apart(program):
                 assert said == "NOPERM this user has no permissions to run the 'sm|migrate' command", said
                 for words in [("HELP",), ("SHARDS",), ("look", 0), ("SERVERS",), ("SETTINGS",)]:
                     assert client.ask("SM", *words), words
-                # Who gives a wrong password stays what it was.
+                # A client that gives a wrong password keeps its role.
                 assert refused(client, "AUTH", "control", "wrong") == "WRONGPASS"
                 assert refused(client, *changes[0]) == "NOPERM" and client.ask("SET", "a", 1) == "OK"
                 assert client.ask("AUTH", "control", "master") == "OK" and client.ask("ACL", "WHOAMI") == b"control"

@@ -1,4 +1,4 @@
-"""A server that runs for a test, what it takes of the machine, and a plain client of it."""
+"""Runs a server for a test, measures its resources, and has a plain client for it."""
 import collections
 import contextlib
 import functools
@@ -13,34 +13,34 @@ import sys
 import threading
 import time
 
-# How long is waited for what takes a moment where a machine has no other work.
+# How long a test waits for something that takes a moment if the machine has no other work.
 SECONDS = 60
-# How many milliseconds a command waits for a shard, where no test is of what is refused then: a crowded machine may be
-# slow to do it.
+# How many milliseconds a command waits for a shard, unless the test is about the refusal after that. A crowded machine
+# may be slow.
 WAIT = 30_000
-# Between these the system gives no port to a connection of its own.
+# In this range the system gives no port to its own connections.
 PORTS = (12_000, 32_000)
-# What says which ports of those this process has taken, as long as it runs.
+# Reserves the ports in that range that this process has taken, as long as it runs.
 TAKEN = []
 # How many lines of its log are kept.
 LAST_LINES = 100
-# How long the slowest of a hundred answers may take beside those who mean no good, or how many times as long as without
-# them just before; for how long it is looked at, and how long these have before that.
+# The longest time of the slowest of a hundred answers beside assailants, or how many times the time without them just
+# before; how long it is measured, and how long the assailants run before that.
 SLOWEST, TIMES, BESIDE, BEGUN = 0.01, 3, 1.0, 0.5
-# How often is tried what a machine with other work may miss.
+# How often a test is tried that a machine with other work may miss.
 TRIES = 8
 
 
 class Refused(Exception):
-    """An answer that is an error; its text."""
+    """An error in an answer, with its text."""
 
 
 class Missed(AssertionError):
-    """What was to be seen was over before it was looked at, or took longer than where a machine has no other work."""
+    """Something was over before the test could look at it, or took longer than on a machine without other work."""
 
 
 def again(test):
-    """The test, tried again where it missed something; whatever else it finds wrong is told at once."""
+    """Tries the test again if it missed something. All other failures are reported at once."""
 
     @functools.wraps(test)
     def tried(program):
@@ -58,14 +58,14 @@ def again(test):
 
 
 def within(took, most, what="it"):
-    """Sees that this took no longer than it may."""
+    """Checks that this took no longer than allowed."""
     if took >= most:
         raise Missed(f"{what} took {took:.2f} s, and may take {most}")
 
 
 def caught(look, client, refusal=None):
-    """What this gives once it gives something, which is so no longer once the client is answered: by no error but this
-    refusal."""
+    """Returns the result of this once there is one. After that the client must be answered without an error, or with
+    this refusal."""
 
     def found():
         if (it := look()) or not client.is_answered():
@@ -96,7 +96,7 @@ class Client:
         self.socket.sendall(packed(*words))
 
     def ask(self, *words):
-        """The answer to a command; an error is raised."""
+        """Returns the answer to a command. An error is raised."""
         self.send(*words)
         answer = self.read()
         if isinstance(answer, Refused):
@@ -104,22 +104,22 @@ class Client:
         return answer
 
     def rows(self, word, most=-1):
-        """What SM answers to this word: the words of each line behind the names of its columns, the last with all that
-        is left where there are this many more."""
+        """Returns SM's answer to this word: the words of each line behind the names of its columns. If a line has more
+        words than this, the last one has all the rest."""
         return [it.decode().split(" ", most) for it in self.ask("SM", word)[1:]]
 
     def piped(self, commands):
-        """The answers to these commands, which are sent at once; errors are among them."""
+        """Returns the answers to these commands, which are sent at once. Errors are among them."""
         self.socket.sendall(b"".join(packed(*it) for it in commands))
         return [self.read() for _ in commands]
 
     def raw(self, *words):
-        """The answer's bytes as they came."""
+        """Returns the answer's bytes as they came."""
         self.send(*words)
         return self.bytes_of_one()
 
     def is_answered(self):
-        """Whether an answer has come, of which nothing is read yet."""
+        """Returns whether an answer has come. Nothing of it is read."""
         return bool(select.select([self.socket], [], [], 0)[0])
 
     def line(self):
@@ -153,7 +153,7 @@ class Client:
 
 
 def eventually(look, seconds=SECONDS):
-    """What this gives once it gives something."""
+    """Returns the result of this once there is one."""
     end = time.monotonic() + seconds
     while True:
         if found := look():
@@ -163,7 +163,8 @@ def eventually(look, seconds=SECONDS):
 
 
 def slowest(clients, seconds):
-    """How long the slowest of a hundred PINGs takes that these clients send one after another, for so long at least."""
+    """Returns how long the slowest of a hundred PINGs takes that these clients send one after another, for at least so
+    long."""
     took, end = [], time.monotonic() + seconds
     while time.monotonic() < end or len(took) < 100:
         for client in clients:
@@ -175,7 +176,7 @@ def slowest(clients, seconds):
 
 @contextlib.contextmanager
 def begun(command):
-    """Has a process of such clients run while the body does, which begins once they have begun."""
+    """Runs a process of such clients during the body, which begins once they have begun."""
     with subprocess.Popen(list(map(str, command)), stdin=subprocess.PIPE, stdout=subprocess.PIPE) as process:
         try:
             process.stdout.readline()
@@ -187,7 +188,7 @@ def begun(command):
 
 @contextlib.contextmanager
 def assailed(*assailants):
-    """Has those connect, while the body runs, of whom these words tell assailants.py."""
+    """Runs assailants.py with these words during the body."""
     command = [sys.executable, pathlib.Path(__file__).parent / "assailants.py", *assailants]
     with begun(command):
         time.sleep(BEGUN)
@@ -195,8 +196,8 @@ def assailed(*assailants):
 
 
 def slowest_beside(clients, *assailants):
-    """The same, beside who connects as these words tell assailants.py; what it is without them says what a machine with
-    other work takes, where it is tried again."""
+    """Does the same beside assailants.py with these words. The time without them says how much a machine with other
+    work takes, and then the test is tried again."""
     found = []
     for _ in range(TRIES):
         alone = slowest(clients, BESIDE)
@@ -209,13 +210,13 @@ def slowest_beside(clients, *assailants):
 
 
 def packed(*words):
-    """A command as clients write it."""
+    """Returns a command as clients write it."""
     words = [it if isinstance(it, bytes) else str(it).encode() for it in words]
     return b"*%d\r\n" % len(words) + b"".join(b"$%d\r\n%s\r\n" % (len(it), it) for it in words)
 
 
 class Server:
-    """A server that runs: its port, its process, and what that has."""
+    """A server that runs: its port, its process, and the resources of that."""
 
     def __init__(self, process, port):
         self.process, self.port = process, port
@@ -236,42 +237,42 @@ class Server:
         return self.process.poll() is None
 
     def is_stopped(self):
-        """Whether a signal has stopped it."""
+        """Returns whether a signal has stopped it."""
         return self.fields()[0] == "T"
 
     def fields(self):
-        """What the system tells of it, from the third field on."""
+        """Returns the system's fields about it, from the third field on."""
         return pathlib.Path(f"/proc/{self.process.pid}/stat").read_text().rpartition(")")[2].split()
 
     def descriptors(self):
         return len(os.listdir(f"/proc/{self.process.pid}/fd"))
 
     def memory(self):
-        """Its bytes of memory."""
+        """Returns its bytes of memory."""
         return int(pathlib.Path(f"/proc/{self.process.pid}/statm").read_text().split()[1]) * 4096
 
     def processor_seconds(self):
-        """What all its threads took of processors so far."""
+        """Returns the processor time of all its threads so far."""
         fields = self.fields()
         return (int(fields[11]) + int(fields[12])) / os.sysconf("SC_CLK_TCK")
 
     def used_in_a_second(self):
-        """How many processor seconds it takes in one."""
+        """Returns how many processor seconds it takes in one second."""
         used = self.processor_seconds()
         time.sleep(1)
         return self.processor_seconds() - used
 
     def threads(self, name):
-        """How many threads of this name it has."""
+        """Returns how many threads with this name it has."""
         count = 0
         for task in pathlib.Path(f"/proc/{self.process.pid}/task").iterdir():
-            # One may end meanwhile.
+            # A thread may end meanwhile.
             with contextlib.suppress(OSError):
                 count += (task / "comm").read_text().strip() == name
         return count
 
     def at_rest(self):
-        """How many descriptors it has once that number hasn't changed for a while."""
+        """Returns how many descriptors it has, once that number hasn't changed for a while."""
         last, since = -1, time.monotonic()
         while time.monotonic() < since + 0.3:
             if (now := self.descriptors()) != last:
@@ -280,7 +281,7 @@ class Server:
         return last
 
     def settle(self, descriptors):
-        """Waits until it has no more descriptors than these, and returns how many it has."""
+        """Waits until it has at most so many descriptors, and returns how many it has."""
         end = time.monotonic() + SECONDS
         while (now := self.descriptors()) > descriptors and time.monotonic() < end:
             time.sleep(0.05)
@@ -288,15 +289,15 @@ class Server:
 
 
 def server_command(program, *options):
-    """The command of a server at a free port, with these options, and patience where they have none."""
+    """Returns the command of a server at a free port, with these options. Unless they say otherwise, it is patient."""
     words = [program, "--port", "0", "--http-port", "0", "--log-format", "json", *map(str, options)]
     return words if "--wait" in words else [*words, "--wait", str(WAIT)]
 
 
 @contextlib.contextmanager
 def served(program, *options, before=(), **how):
-    """Runs the server with these options, by what stands before it and as is said, while the body runs, and sees that
-    it ends well when it is told to."""
+    """Runs the server with these options, behind the words of `before`, during the body. Checks that it ends well when
+    it is told to."""
     command = [*before, *server_command(program, *options)]
     how |= {"stderr": subprocess.PIPE, "stdin": subprocess.DEVNULL, "text": True}
     with subprocess.Popen(command, **how) as process:
@@ -310,7 +311,7 @@ def served(program, *options, before=(), **how):
             try:
                 process.wait(SECONDS)
             except subprocess.TimeoutExpired:
-                # One that doesn't end would be waited for without an end.
+                # A server that doesn't end would otherwise be waited for forever.
                 process.kill()
                 raise
         reading.join(SECONDS)
@@ -320,8 +321,8 @@ def served(program, *options, before=(), **how):
 
 
 def free_ports(count):
-    """As many ports at which nobody listens, of those that the system gives to no connection of its own; no other
-    process that asks here is given one of them as long as this one runs."""
+    """Returns as many ports at which nobody listens, of those that the system gives to no connection of its own. No
+    other process that asks here is given one of them as long as this one runs."""
     found = []
     while len(found) < count:
         port = random.SystemRandom().randrange(*PORTS)
@@ -334,20 +335,20 @@ def free_ports(count):
 
 
 def free_port():
-    """A port at which nobody listens."""
+    """Returns a port at which nobody listens."""
     return free_ports(1)[0]
 
 
 def read_all(process, said):
-    """Has a thread keep there what the process says, which it reads at once; the thread. A process that nobody reads
-    drops what it would say, or waits."""
+    """Starts a thread that keeps what the process says and reads it at once; returns the thread. A process whose log
+    isn't read drops lines, or waits."""
     reading = threading.Thread(target=said.extend, args=(process.stderr,), daemon=True)
     reading.start()
     return reading
 
 
 def port_of(process):
-    """The port that the log tells; a server that tells none is ended after long."""
+    """Returns the port in the log. A server that logs none is ended after long."""
     late = threading.Timer(20 * SECONDS, process.kill)
     late.daemon = True
     late.start()
@@ -366,7 +367,7 @@ def told_port(process):
 
 
 def run(tests, program):
-    """Runs these tests of the program, each by its name, and says what failed; returns the exit status."""
+    """Runs these tests of the program, each by its name, and says what failed. Returns the exit status."""
     failed = 0
     for test in tests:
         name = test.__name__.replace("_", " ")

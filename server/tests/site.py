@@ -24,7 +24,7 @@ SAMPLE = re.compile(r'^durkenzo_\w+(\{\w+="[\w.+]+"(,\w+="\w+")*\})? \d+(\.\d+)?
 
 
 def got(port, path):
-    """The body at this path; tried again while nobody listens there yet."""
+    """Returns the body at this path. It is tried again while nobody listens there yet."""
 
     def body():
         with contextlib.suppress(ConnectionError, urllib.error.URLError):
@@ -38,6 +38,7 @@ def the_page_shows_how_all_stands(program):
     port = free_port()
     with served(program, "--http-port", port, "--servers", 3, "--shards", 6) as server, server.client() as client:
         assert "<title>Durkenzo</title>" in got(port, "/") and got(port, "/healthz") == "ok\n"
+        assert got(port, "/live") == got(port, "/ready") == "ok\n"
         client.ask("SET", "a", 1)
         assert client.ask("SM", "PREPARE_ADD", 0, 2) == "OK"
         state = json.loads(got(port, "/state.json"))
@@ -66,14 +67,14 @@ def metrics_are_in_the_format_of_prometheus(program):
 
 
 def numbers_of(port):
-    """The samples of /metrics, and the names of its counters."""
+    """Returns the samples of /metrics, and the names of its counters."""
     lines = got(port, "/metrics").splitlines()
     counters = {it.split()[2] for it in lines if it.startswith("# TYPE ") and it.endswith(" counter")}
     return dict(it.rsplit(" ", 1) for it in lines if not it.startswith("#")), counters
 
 
 def metrics_and_info_tell_the_same_by_one_name(program):
-    """What quiet threads counted is the same number in both, and a counter never falls."""
+    """The counts of quiet threads are the same in both, and a counter never falls."""
     port = free_port()
     with served(program, "--http-port", port, "--threads", 2) as server, server.client() as client:
         before, counters = numbers_of(port)
@@ -91,7 +92,7 @@ def metrics_and_info_tell_the_same_by_one_name(program):
 
 @again
 def slow_clients_keep_nobody_out(program):
-    """Many connections that send nothing, or a part of a request."""
+    """Many connections send nothing, or a part of a request."""
     port = free_port()
     with served(program, "--http-port", port) as server, contextlib.ExitStack() as stack:
         assert got(port, "/healthz") == "ok\n"
@@ -101,13 +102,13 @@ def slow_clients_keep_nobody_out(program):
             one.sendall(b"GET / HTTP/1.1\r\nHost: a\r\n"[: number % 20])
         began = time.monotonic()
         assert got(port, "/healthz") == "ok\n"
-        # Who sends nothing stays for a minute.
+        # A client that sends nothing stays for a minute.
         within(time.monotonic() - began, 3, "an answer")
         assert server.descriptors() - before < 300, server.descriptors()
 
 
 def what_is_not_counted_is_not_told(program):
-    """Of data in a folder there are no counts of keys, nor of what each server did."""
+    """For data in a folder there are no counts of keys, nor of the work of each server."""
     port = free_port()
     with tempfile.TemporaryDirectory() as folder:
         options = ["--http-port", port, "--data", f"{folder}/data", "--shards", 4]
@@ -125,7 +126,8 @@ def what_is_not_counted_is_not_told(program):
 
 
 def settings_of(count, **members):
-    """Settings of two shards and so many servers with room for one each, of which two are of a domain."""
+    """Returns settings of two shards and so many servers with room for one each. Two of the servers are in one
+    domain."""
     rows = {
         "version": 2, "bounds": ["", "m"], "groups": [{"limit": 2, "down": 2}], "ops": 2, "kept": 9, "ceiling": 1000,
         "servers": [{"id": it + 1, "domain": it // 2, "capacity": 1} for it in range(count)], "workers": 1,
@@ -137,7 +139,7 @@ def settings_of(count, **members):
 
 @contextlib.contextmanager
 def by_settings(program, rows):
-    """A client of a server with these settings, which stand over several lines."""
+    """Yields a client of a server with these settings, which are spread over several lines."""
     with tempfile.TemporaryDirectory() as folder:
         file = pathlib.Path(folder) / "settings.json"
         file.write_text(json.dumps(rows, indent=1))
@@ -146,7 +148,7 @@ def by_settings(program, rows):
 
 
 def refused(client, *words):
-    """The name by which the command is refused."""
+    """Returns the name of the command's refusal."""
     client.send(*words)
     found = client.read()
     assert isinstance(found, Refused) and str(found).startswith("REFUSED "), (words, found)
@@ -154,7 +156,7 @@ def refused(client, *words):
 
 
 def settings_of_scripts_are_taken(program):
-    """Servers, bounds, ops and domains."""
+    """Servers, bounds, ops and domains apply."""
     with by_settings(program, settings_of(4)) as client:
         settings = b"\n".join(client.ask("SM", "SETTINGS")).decode()
         assert "servers 4\nshards 2\nkeys by ranges\nrestarts at once 2\nceiling 1000" in settings, settings
@@ -166,7 +168,7 @@ def settings_of_scripts_are_taken(program):
 
 
 def domains_of_options_bind(program):
-    """Of each domain one server may be away, in memory and in a folder, though more restarts are let at once."""
+    """One server of each domain may be away, in memory and in a folder, even if more restarts are allowed at once."""
     with tempfile.TemporaryDirectory() as folder:
         for data in ([], ["--data", f"{folder}/data"]):
             options = ["--servers", 4, "--domains", 2, "--restarts", 5_000, "--shards", 4, *data]
@@ -181,7 +183,7 @@ def domains_of_options_bind(program):
 
 
 def limits_of_settings_bind(program):
-    """Capacities, limits of groups, and caps of shards and groups, each by its name."""
+    """Capacities, limits of groups, and caps of shards and groups apply, each by its name."""
     with by_settings(program, settings_of(2)) as client:
         assert client.ask("SM", "PLAN", 1) == "plan left 0"
         for words in (("MIGRATE", 0, 2), ("DRAIN", 1), ("RESTART", 1)):
@@ -207,7 +209,7 @@ def limits_of_settings_bind(program):
 
 
 def loads_stay_within_settings(program):
-    """A board that stands as in a dump has its limits, also where a migration was under way."""
+    """A board with the stands of a dump has its limits, also if a migration was under way."""
     with by_settings(program, settings_of(4)) as client:
         assert client.ask("SM", "MIGRATE", 0, 3) == client.ask("SM", "PREPARE_ADD", 1, 4) == "OK"
         client.ask("SM", "DUMP", "file")
@@ -221,11 +223,11 @@ def loads_stay_within_settings(program):
 
 
 def the_page_has_no_dates_before_1970(program):
-    """Its library has no such dates: /healthz is answered, all else refused, and clients are served."""
+    """Its library has no such dates: /healthz is answered, everything else is refused, and clients are served."""
     if not FAKETIME.is_file():
         return "faketime isn't installed"
     port = free_port()
-    # What measures times isn't the clock.
+    # Times aren't measured with this clock.
     turned = {"LD_PRELOAD": str(FAKETIME), "FAKETIME": "@1960-01-01 00:00:00"}
     env = {**os.environ, **turned, "DONT_FAKE_MONOTONIC": "1", "FAKETIME_DONT_FAKE_MONOTONIC": "1"}
     with served(program, "--http-port", port, env=env) as server, server.client() as client:
@@ -257,8 +259,8 @@ def who_asks_the_control_is_in_the_log(program):
 
 @contextlib.contextmanager
 def unread(program, count):
-    """A server that nobody reads the log of, once it has answered so many commands that are logged; its process, and
-    how many lines it says it has dropped."""
+    """Runs a server whose log nobody reads until it has answered so many commands that are logged. Returns its process,
+    and how many lines it says it has dropped."""
     port = free_port()
     command = [program, "--port", "0", "--http-port", str(port), "--log-format", "json"]
     with subprocess.Popen(command, stderr=subprocess.PIPE, stdin=subprocess.DEVNULL, text=True) as process:
@@ -284,18 +286,19 @@ def a_log_that_nobody_reads_keeps_nobody_waiting(program):
         process.terminate()
         assert process.wait(SECONDS) == 0
         reading.join(SECONDS)
-    # Each line is whole, each command has two, and all that are missing are counted.
+    # Each line is whole, each command has three, and all missing lines are counted.
     fields = [json.loads(it)["fields"] for it in said]
     told = [it["lines"] for it in fields if "were dropped" in it["message"]]
-    logged = sum("SM " in it.get("asked", "") for it in fields)
-    assert sum(told) == dropped and logged + dropped == 2 * count, (told, dropped, logged)
+    changes = ("the shard is paused", "the shard is resumed")
+    logged = sum("SM " in it.get("asked", "") or it["message"] in changes for it in fields)
+    assert sum(told) == dropped and logged + dropped == 3 * count, (told, dropped, logged)
     assert fields[-1]["message"] == "stopped", fields[-1]
-    return f"{dropped} of {2 * count} lines dropped"
+    return f"{dropped} of {3 * count} lines dropped"
 
 
 def wrong_options_are_told_before_a_build(program):
-    """By ./sm serve, which knows all options of the program from its sources."""
-    # There a build would end by what it lacks.
+    """The test uses ./sm serve, which knows all options of the program from its sources."""
+    # Without these programs a build would fail.
     with tempfile.TemporaryDirectory() as empty:
         (pathlib.Path(empty) / "python3").symlink_to(sys.executable)
         env = {**os.environ, "PATH": empty}

@@ -1,5 +1,5 @@
 #!/usr/bin/env python3
-"""What versions before this one left behind is read by it, with all values and stands: upgrade.py PROGRAM.
+"""Checks that the files of earlier versions are read, with all values and stands: upgrade.py PROGRAM.
 
 fixtures/ has a folder for each of them, written by fixtures/write.py."""
 import pathlib
@@ -21,7 +21,7 @@ def versions():
 
 
 def told(file):
-    """What was told then: shards by number, servers, and values, by the first words of their lines."""
+    """Returns the answers of that time: shards by number, servers, and values, by the first words of their lines."""
     rows = [it.split(" ") for it in file.read_text(encoding="utf-8").splitlines()]
     shards = {int(it[1]): (it[2], int(it[3]), int(it[4]), int(it[5])) for it in rows if it[0] == "shard"}
     servers = {int(it[1]): it[2] for it in rows if it[0] == "server"}
@@ -35,7 +35,7 @@ def shards_of(client):
 
 
 def settled(client):
-    """How shards stand once none is moving any more."""
+    """Returns the stands of the shards once none is moving any more."""
     end = time.monotonic() + SECONDS
     while any(it[0] in MOVING for it in shards_of(client).values()) and time.monotonic() < end:
         time.sleep(0.02)
@@ -43,7 +43,7 @@ def settled(client):
 
 
 def after(stood):
-    """How a shard stands once its migration has gone on to its end."""
+    """Returns a shard's stand once its migration has gone on to its end."""
     stand, owner, other, _ = stood
     if stand in ("Prepared", "Forwarding"):
         return "Serving", other, 0

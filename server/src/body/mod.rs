@@ -1,4 +1,4 @@
-//! What a shard holds: an ordered map of keys to texts and counts, behind one trait.
+//! The body of a shard: an ordered map of keys to texts and counts, behind one trait.
 mod proved;
 
 pub use proved::ProvedBody;
@@ -13,114 +13,116 @@ pub const MAX_TEXT: usize = 65_535;
 /// The most pairs that one scan gives.
 pub const MAX_PAIRS: usize = 100;
 
-/// What a key holds: a text or a count, which are two kinds.
+/// The value of a key: a text or a count, which are two kinds.
 #[derive(Clone, Copy, Debug, PartialEq, Eq)]
 pub enum ValueRef<'a> {
     /// At most `MAX_TEXT` bytes.
     Text(&'a [u8]),
-    /// A number, to which others may be added.
+    /// A number, to which others can be added.
     Count(i64),
 }
 
-/// Keys from a lower bound on, up to a higher one.
+/// The keys from a lower bound on, up to an upper bound.
 #[derive(Clone, Copy, Debug)]
 pub struct RangeRef<'a> {
-    /// Where it begins.
+    /// The lower bound.
     pub low: Bound<&'a [u8]>,
-    /// The first key that isn't of it, if there is one.
+    /// The first key that isn't in the range, if there is one.
     pub high: Option<&'a [u8]>,
-    /// How many pairs are wanted, at most `MAX_PAIRS`.
+    /// The most pairs that are wanted, at most `MAX_PAIRS`.
     pub most: usize,
 }
 
-/// What is asked of a shard.
+/// A request to a shard.
 #[derive(Clone, Copy, Debug)]
 pub enum BodyRequest<'a> {
-    /// What the key holds.
+    /// Returns the value of the key.
     Get(&'a [u8]),
-    /// Has the key hold this, whatever it held.
+    /// Sets the value of the key, whether it has one or not.
     Put(&'a [u8], ValueRef<'a>),
-    /// Adds to the text that the key holds, from an empty one where it holds nothing.
+    /// Appends to the text of the key. If the key has no value, it appends to an empty text.
     Append(&'a [u8], &'a [u8]),
-    /// Adds to the count that the key holds, from 0 where it holds nothing.
+    /// Adds to the count of the key. If the key has no value, it adds to 0.
     Add(&'a [u8], i64),
-    /// Has the key hold nothing.
+    /// Deletes the key.
     Delete(&'a [u8]),
-    /// Gives pairs in the order of their keys.
+    /// Returns pairs in the order of their keys.
     Scan(RangeRef<'a>),
 }
 
 /// Why a request changes nothing.
 #[derive(Clone, Copy, Debug, PartialEq, Eq)]
 pub enum BodyRefusal {
-    /// The key holds a count where a text is wanted, or a text where a count is.
+    /// The key holds a count, but the request is for a text; or the reverse.
     WrongKind,
     /// The text would have more than `MAX_TEXT` bytes.
     TooLong,
-    /// The sum lies outside of 64 bits.
+    /// The sum doesn't fit into 64 bits.
     Overflow,
     /// Memory was refused.
     NoMemory,
 }
 
-/// A key and what it holds.
+/// A key and its value.
 pub type PairRef<'a> = (&'a [u8], ValueRef<'a>);
 
-/// What a shard answers.
+/// A shard's reply.
 #[derive(Clone, Debug, PartialEq, Eq)]
 pub enum BodyReply<'a> {
-    /// The key held nothing: of Get and Delete.
+    /// The key had no value (reply to Get and Delete).
     Nothing,
-    /// What was asked for was done: of Put and Delete.
+    /// The request was done (reply to Put and Delete).
     Done,
-    /// What the key holds: of Get.
+    /// The value of the key (reply to Get).
     Value(ValueRef<'a>),
-    /// How many bytes the text has since then: of Append.
+    /// The new length of the text, in bytes (reply to Append).
     Length(usize),
-    /// The count since then: of Add.
+    /// The new count (reply to Add).
     Count(i64),
-    /// The first pairs of the range: of Scan.
+    /// The first pairs of the range (reply to Scan).
     Pairs(Vec<PairRef<'a>>),
     /// Nothing was changed.
     Refused(BodyRefusal),
 }
 
-/// What a shard's body does. One thread at a time has a body, whose permit the board gave it.
+/// The operations of a shard's body. Only one thread at a time has a body: the one to which the board gave its permit.
 pub trait ShardBody: Send {
-    /// What the key holds, if anything; or `NoMemory`. Keys have 1 to `MAX_KEY` bytes, here and below.
+    /// Returns the value of the key, if it has one; or `NoMemory`. Here and below, a key must have 1 to `MAX_KEY`
+    /// bytes.
     fn get(&mut self, key: &[u8]) -> Result<Option<ValueRef<'_>>, BodyRefusal>;
 
-    /// Has the key hold this, whatever it held; or `TooLong` or `NoMemory`.
+    /// Sets the value of the key, whether it has one or not; or fails with `TooLong` or `NoMemory`.
     fn put(&mut self, key: &[u8], value: ValueRef<'_>) -> Result<(), BodyRefusal>;
 
-    /// Adds to the count that the key holds, from 0 where it holds nothing, and returns the sum; or `WrongKind`,
-    /// `Overflow` or `NoMemory`.
+    /// Adds to the count of the key, or to 0 if it has no value, and returns the sum; or `WrongKind`, `Overflow` or
+    /// `NoMemory`.
     fn add(&mut self, key: &[u8], number: i64) -> Result<i64, BodyRefusal>;
 
-    /// Does what is asked, and answers.
+    /// Does the request, and returns the reply.
     fn apply<'a>(&'a mut self, request: BodyRequest<'_>) -> BodyReply<'a>;
 
-    /// Has all keys hold nothing; or `NoMemory`.
+    /// Deletes all keys, or fails with `NoMemory`.
     fn clear(&mut self) -> Result<(), BodyRefusal>;
 
-    /// Has no room for what it told last, if that is much.
+    /// Frees the room that the last reply took, if it is large.
     fn forget(&mut self);
 
-    /// How many bytes the key's value has where it is written, none of which is copied; none where it holds nothing.
+    /// Returns how many bytes the key's value has when it is written, and copies none of them. Returns nothing if the
+    /// key has no value.
     ///
     /// # Errors
     ///
-    /// Where memory is refused.
+    /// If memory is refused.
     fn measure(&mut self, key: &[u8]) -> Result<Option<usize>, BodyRefusal>;
 
-    /// How many keys hold something.
+    /// Returns how many keys have a value.
     fn keys(&mut self) -> usize;
 }
 
-/// What the board keeps for a shard.
+/// The board's content for a shard.
 pub type BoxedBody = Box<dyn ShardBody>;
 
-/// Returns what a shard begins with, which holds nothing.
+/// Returns the body with which a shard begins. It holds no keys.
 ///
 /// # Errors
 ///

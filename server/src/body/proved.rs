@@ -7,40 +7,40 @@ use crate::resp::number::Digits;
 use durkenzo::{Held, LentReply, LentText, Map, MapFault, Measure, Request, Value};
 use std::ops::Bound;
 
-/// How much room for a text is kept from one request to the next.
+/// How many bytes of room for a text are kept from one request to the next.
 const KEPT_ROOM: usize = 1 << 10;
 
-/// After how many bytes that were deleted the map looks whether it can give memory back, which it does for no fewer.
+/// After this many deleted bytes the map checks whether it can give memory back. It gives none back after fewer.
 const MOST_DELETED: usize = 64 << 10;
 
-/// What a map replied, where that was no refusal.
+/// The reply of a map, unless it is a refusal.
 #[derive(Debug)]
 enum ProvedReply {
     Nothing,
     Done,
-    /// A text, which stands in the body's room.
+    /// A text, which lies in the body's room.
     Text,
     Count(i64),
     Pairs(Vec<(Vec<u8>, Value)>),
 }
 
-/// A shard's pairs in the library's map: what it replies to each of its requests is proved. Here stands which of them a
-/// command makes, under one permit.
+/// A shard's pairs, in the library's map. The map's reply to each request is proved. The code here chooses which
+/// requests a command makes, under one permit.
 #[derive(Debug)]
 pub struct ProvedBody {
     map: Map,
-    /// What was told last, which a reply borrows.
+    /// The last reply of the map, which replies of the body borrow.
     told: ProvedReply,
-    /// The text that was told last, so that few texts need memory of their own.
+    /// The text of the last reply. It is kept so that few texts need memory of their own.
     text: Vec<u8>,
-    /// How many keys held something when that was last asked, unless a request may have changed it since.
+    /// How many keys had a value when the map was last asked, unless a request may have changed it since.
     keys: Option<usize>,
-    /// How many bytes were deleted since the map last looked whether it can give memory back.
+    /// How many bytes were deleted since the map last checked whether it can give memory back.
     deleted: usize,
 }
 
 impl ProvedBody {
-    /// A body that holds nothing; or no memory for it.
+    /// Makes a body without keys, or fails if memory is refused.
     pub fn new() -> Result<ProvedBody, MapFault> {
         Ok(ProvedBody {
             map: Map::new()?,
@@ -51,7 +51,7 @@ impl ProvedBody {
         })
     }
 
-    /// Whether the map made the request, or the refusal with which it changed nothing; what it told is kept.
+    /// Makes the request on the map and keeps the reply; or returns the refusal, by which nothing changed.
     fn ask(&mut self, request: &Request<'_>) -> Result<(), BodyRefusal> {
         self.told = match lent(&mut self.map, request)? {
             LentReply::Nothing => ProvedReply::Nothing,
@@ -69,7 +69,7 @@ impl ProvedBody {
         Ok(())
     }
 
-    /// What was told last, where that was a value.
+    /// Returns the last reply, if it was a value.
     fn value(&self) -> Option<ValueRef<'_>> {
         match &self.told {
             ProvedReply::Text => Some(ValueRef::Text(&self.text)),
@@ -78,14 +78,14 @@ impl ProvedBody {
         }
     }
 
-    /// Has the key hold a value of another kind than it may hold now.
-    // Outside of `put`, so that most puts save no registers for it.
+    /// Sets the value of a key that may have a value of another kind.
+    // This is a function of its own because most calls of `put` then save no registers for it.
     #[inline(never)]
     fn put_over(&mut self, key: &[u8], value: ValueRef<'_>) -> Result<(), BodyRefusal> {
         self.ask(&Request::Get(key))?;
         lent(&mut self.map, &Request::Remove(key))?;
         if let Err(refusal) = lent(&mut self.map, &asked_for(key, value)) {
-            // It holds again what it held, unless memory is refused for that too.
+            // The key gets its old value back, unless memory is refused for that too.
             if let Some(held) = self.value().map(owned) {
                 let map = &mut self.map;
                 let _ = memory::with_spare(|| map.ask(&asked_for(key, borrowed(&held))).is_ok());
@@ -95,7 +95,7 @@ impl ProvedBody {
         Ok(())
     }
 
-    /// How many bytes the key's text has.
+    /// Returns how many bytes the key's text has.
     fn length(&mut self, key: &[u8]) -> Result<usize, BodyRefusal> {
         match self.map.measure(key).map_err(refusal_of)? {
             Some(Measure::Text(length)) => Ok(length),
@@ -103,7 +103,7 @@ impl ProvedBody {
         }
     }
 
-    /// Has the pairs of the range be told.
+    /// Asks the map for the pairs of the range.
     fn scan(&mut self, range: RangeRef<'_>) -> Result<(), BodyRefusal> {
         self.told = ProvedReply::Pairs(Vec::new());
         let Some(low) = lowest(range.low) else {
@@ -121,7 +121,7 @@ impl ProvedBody {
         Ok(())
     }
 
-    /// Has the greatest key of all be told after the others, where it holds something: no bound is above it.
+    /// Adds the greatest possible key to the pairs, if it has a value: no bound is above that key.
     fn scan_last(&mut self, most: usize) -> Result<(), BodyRefusal> {
         let before = std::mem::replace(&mut self.told, ProvedReply::Nothing);
         self.ask(&Request::Get(&LAST_KEY))?;
@@ -135,14 +135,14 @@ impl ProvedBody {
         Ok(())
     }
 
-    /// Makes the request, of which `told` has the reply.
+    /// Makes the request. Its reply is then in `told`.
     fn make(&mut self, request: &Request<'_>) -> Result<(), BodyRefusal> {
-        // Whether it holds another number of keys since then isn't told.
+        // The reply doesn't say whether the number of keys has changed.
         self.keys = None;
         self.ask(request)
     }
 
-    /// Has the key hold nothing.
+    /// Deletes the key.
     fn delete(&mut self, key: &[u8]) -> Result<(), BodyRefusal> {
         let length = self.measure(key)?;
         self.make(&Request::Remove(key))?;
@@ -154,8 +154,8 @@ impl ProvedBody {
         Ok(())
     }
 
-    /// Has the map give back memory, if more of it was deleted than stays: it looks at that before it writes. A key
-    /// that holds nothing holds nothing behind that, too.
+    /// Has the map give memory back, if more bytes were deleted than stay. The map checks that when it writes. If the
+    /// key has no value before this call, it has none after it.
     fn give_back(&mut self, key: &[u8]) {
         let map = &mut self.map;
         let written = memory::with_spare(|| lent(map, &Request::Append(key, b"")).is_ok());
@@ -164,7 +164,7 @@ impl ProvedBody {
         }
     }
 
-    /// What was told of a request that was made.
+    /// Returns the reply to the last request.
     fn reply(&self) -> BodyReply<'_> {
         match &self.told {
             ProvedReply::Nothing => BodyReply::Nothing,
@@ -202,7 +202,7 @@ impl ShardBody for ProvedBody {
 
     fn add(&mut self, key: &[u8], number: i64) -> Result<i64, BodyRefusal> {
         let sum = self.map.add(key, number).map_err(refusal_of)?;
-        // A key that held nothing until now holds the number itself.
+        // If the key had no value until now, the sum is the number itself.
         if sum == number {
             self.keys = None;
         }
@@ -237,7 +237,7 @@ impl ShardBody for ProvedBody {
     }
 
     fn clear(&mut self) -> Result<(), BodyRefusal> {
-        // A new map holds nothing.
+        // A new map has no keys.
         *self = memory::fallibly(ProvedBody::new).map_err(refusal_of)?;
         Ok(())
     }
@@ -263,10 +263,10 @@ impl ShardBody for ProvedBody {
     }
 }
 
-/// The greatest key that there may be.
+/// The greatest possible key.
 static LAST_KEY: [u8; MAX_KEY] = [u8::MAX; MAX_KEY];
 
-/// The least key that is within the bound, if there is one.
+/// Returns the least key within the bound, if there is one.
 fn lowest(bound: Bound<&[u8]>) -> Option<Vec<u8>> {
     let mut key = match bound {
         Bound::Unbounded => Vec::new(),
@@ -285,7 +285,7 @@ fn lowest(bound: Bound<&[u8]>) -> Option<Vec<u8>> {
     Some(key)
 }
 
-/// The request that has a key that holds nothing hold the value.
+/// Returns the request that gives this value to a key without a value.
 fn asked_for<'a>(key: &'a [u8], value: ValueRef<'a>) -> Request<'a> {
     match value {
         ValueRef::Text(text) => Request::Put(key, text),
@@ -293,7 +293,7 @@ fn asked_for<'a>(key: &'a [u8], value: ValueRef<'a>) -> Request<'a> {
     }
 }
 
-/// Has the text stand in the room, and nothing else.
+/// Copies the text into the room, in place of the room's content.
 fn keep(text: LentText<'_>, room: &mut Vec<u8>) -> Result<(), BodyRefusal> {
     room.clear();
     room.shrink_to(KEPT_ROOM);
@@ -302,13 +302,13 @@ fn keep(text: LentText<'_>, room: &mut Vec<u8>) -> Result<(), BodyRefusal> {
     Ok(())
 }
 
-/// What the map lends for the request; or that memory is refused.
+/// Returns the map's reply to the request, which borrows from the map; or fails if memory is refused.
 #[inline]
 fn lent<'a>(map: &'a mut Map, request: &Request<'_>) -> Result<LentReply<'a>, BodyRefusal> {
     memory::fallibly(|| map.lend(request)).map_err(refusal_of)
 }
 
-/// Why a request of a key that was judged before changes nothing.
+/// Returns the reason for which a request with a valid key changes nothing.
 fn refusal_of(fault: MapFault) -> BodyRefusal {
     match fault {
         MapFault::NoMemory => BodyRefusal::NoMemory,

@@ -6,7 +6,7 @@ pub(super) struct ByteSet {
 }
 
 impl ByteSet {
-    /// Those from one to another, which isn't less.
+    /// Makes the set of the bytes from `low` to `high`, which isn't less.
     pub(super) fn from_to(low: u8, high: u8) -> ByteSet {
         let mut bytes = ByteSet::default();
         for byte in low..=high {
@@ -18,7 +18,7 @@ impl ByteSet {
         bytes
     }
 
-    /// These and those.
+    /// Returns the union of both sets.
     pub(super) fn with(self, other: ByteSet) -> ByteSet {
         ByteSet {
             low: self.low | other.low,
@@ -26,7 +26,7 @@ impl ByteSet {
         }
     }
 
-    /// All but these.
+    /// Returns the set of all other bytes.
     pub(super) fn others(self) -> ByteSet {
         ByteSet {
             low: !self.low,
@@ -34,7 +34,7 @@ impl ByteSet {
         }
     }
 
-    /// Whether the byte is one of these.
+    /// Returns whether the byte is in the set.
     pub(super) fn has(self, byte: u8) -> bool {
         let (bits, place) = match byte < 128 {
             true => (self.low, byte),

@@ -2,19 +2,21 @@ use super::latest::{Latest, Position};
 use std::hash::{BuildHasher, Hasher, RandomState};
 use std::sync::{Arc, Mutex, PoisonError};
 
-/// How many cursors of all connections are known at a time; older ones are forgotten.
+/// How many cursors of all connections are remembered at a time. Older ones are forgotten.
 const MOST: usize = 4_096;
-/// How many of each connection are known besides.
+/// How many cursors of each connection are remembered besides.
 const MOST_OWN: usize = 16;
 
-/// Below this the first cursor is: those behind it stay below 2^53 then, for clients whose numbers are no greater.
+/// The first cursor is below this number. Then later cursors stay below 2^53, because some clients know no greater
+/// numbers.
 const MOST_FIRST: u64 = 1 << 52;
 
-/// Where the cursors of SCAN stand. Redis' cursors are numbers, and keys of an ordered map have none.
+/// The positions of SCAN's cursors. Redis' cursors are numbers, but the position in an ordered map is a key, so the
+/// server remembers which number stands for which position.
 #[derive(Debug)]
 pub struct Cursors {
     known: Mutex<Known>,
-    /// Whether others give cursors too, so that one that wasn't given here is perhaps known there.
+    /// Whether other processes give cursors too. If so, a cursor that this process didn't give may be known there.
     has_others: bool,
 }
 
@@ -27,8 +29,8 @@ struct Known {
 }
 
 impl Default for Cursors {
-    /// Those of a process, none of which was given. They begin by chance, so that one that another process gave, or an
-    /// earlier one of this server, is hardly ever taken for one of these.
+    /// Makes the cursors of a process that has given none. The first number is random, so that a cursor of another
+    /// process, or of an earlier run of this server, is hardly ever taken for one of these.
     fn default() -> Cursors {
         let by_chance = RandomState::new().build_hasher().finish();
         let (first, latest) = (by_chance % MOST_FIRST, Latest::default());
@@ -44,12 +46,12 @@ impl Default for Cursors {
     }
 }
 
-/// The cursors that a connection was given last, which those of others don't have forgotten.
+/// The cursors that a connection was given last. Cursors of other connections don't push them out.
 #[derive(Clone, Debug, Default)]
 pub struct OwnCursors(Arc<Mutex<Latest>>);
 
 impl Cursors {
-    /// Those of one of several processes.
+    /// Makes the cursors of one of several processes.
     pub fn among_others() -> Cursors {
         Cursors {
             has_others: true,
@@ -57,7 +59,7 @@ impl Cursors {
         }
     }
 
-    /// A new cursor, which isn't 0, at this position, for the connection that has these.
+    /// Returns a new cursor, which isn't 0, at this position, for the connection with these cursors.
     pub fn keep(&self, position: Position, own: &OwnCursors) -> u64 {
         let mut known = self.known.lock().unwrap_or_else(PoisonError::into_inner);
         known.last += 1;
@@ -69,9 +71,10 @@ impl Cursors {
         cursor
     }
 
-    /// Where the cursor stands, of the connection that has these: 0 at the beginning, and so does one that was never
-    /// given, as Redis takes any number; one that was forgotten nowhere, or whoever is slow would never come to an end.
-    /// Among other processes one that wasn't given here is nowhere too, or whoever asks them in turn wouldn't.
+    /// Returns the position of the cursor, for the connection with these cursors. Cursor 0 is at the beginning. So is a
+    /// cursor that was never given, because Redis takes any number. A cursor that was forgotten has no position:
+    /// otherwise a slow client's scan would never end. If there are other processes, a cursor that this process didn't
+    /// give has no position either: otherwise the scan of a client that asks the processes in turn would never end.
     pub fn position(&self, cursor: u64, own: &OwnCursors) -> Option<Position> {
         if cursor == 0 {
             return Some(Position::default());

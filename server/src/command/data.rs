@@ -1,5 +1,6 @@
-//! What the commands with keys do to a shard. Redis has one kind of value, and a shard two: a text that is a number is
-//! kept as a count, so that it can be added to, and a count is a text wherever a text is wanted.
+//! The commands with keys, as operations on a shard's body. Redis has one kind of value, and a shard has two. A text
+//! that is a number is kept as a count, so that it can be added to; if a command wants a text, it reads a count as its
+//! digits.
 use super::long_double::LongDouble;
 use super::spec::Spec;
 use super::Fault;
@@ -8,30 +9,30 @@ use crate::memory::{self, CEILING};
 use crate::resp::number::{self, Digits};
 use crate::resp::{Command, Replies, MAX_REPLY};
 
-/// How many values are one reply however long they are.
+/// This many values fit into one reply, however long they are.
 const SURELY_FIT: usize = MAX_REPLY / (MAX_TEXT + 16);
-/// The fewest bytes that say that there is nothing.
+/// The fewest bytes of a reply that says that a key has no value.
 const LEAST_NULL: usize = "_\r\n".len();
 
-/// Does a command of the right number of arguments, whose keys are all of the shard with this body, and answers it.
+/// Does a command with the right number of arguments, whose keys are all in the shard of this body, and answers it.
 ///
-/// In memory the body is the shard's own. Over a store it holds what the command's keys held, or it is a `BlindBody`,
-/// which only notes what is written. So what a command asks for next may depend on what it has read, and on no reply to
-/// what it wrote.
+/// In memory the body is the shard's own. Over a store it holds the values that the command's keys had, or it is a
+/// `BlindBody`, which only notes the writes. So the next request of a command may depend on values that it has read,
+/// but not on the replies to its writes.
 pub type Execute = fn(Command<'_>, &mut dyn ShardBody, &mut Replies) -> Result<(), Fault>;
 
-/// Does the command of this row, whose keys are all of this shard, and answers it.
+/// Does the command of this row, whose keys are all in this shard, and answers it.
 pub fn answer(spec: &Spec, command: Command<'_>, body: &mut dyn ShardBody, replies: &mut Replies) {
     let mark = replies.mark();
     let done = spec.execute(command, body, replies);
-    // What changed something is answered by what there was room for.
+    // Only the answer to a read can be too long, so taking it back hides no change.
     if let Err(fault) = done.and_then(|()| Ok(replies.are_whole()?)) {
         replies.take_back(mark);
         replies.error(fault);
     }
 }
 
-/// A value as a shard keeps it.
+/// Returns a value as a shard keeps it.
 fn value_of(text: &[u8]) -> ValueRef<'_> {
     number::parse(text).map_or(ValueRef::Text(text), ValueRef::Count)
 }
@@ -43,12 +44,12 @@ fn write_value(value: ValueRef<'_>, replies: &mut Replies) {
     }
 }
 
-/// What the key holds, if anything; or why that can't be told.
+/// Returns the value of the key, if it has one; or the reason why it can't be read.
 fn held<'a>(body: &'a mut dyn ShardBody, key: &[u8]) -> Result<Option<ValueRef<'a>>, Fault> {
     Ok(body.get(key)?)
 }
 
-/// GET: answers what the key holds.
+/// GET: answers the value of the key.
 pub(super) fn get(
     command: Command<'_>,
     body: &mut dyn ShardBody,
@@ -57,7 +58,7 @@ pub(super) fn get(
     tell(body, command.get(1), replies)
 }
 
-/// Answers what the key holds.
+/// Answers the value of the key.
 fn tell(body: &mut dyn ShardBody, key: &[u8], replies: &mut Replies) -> Result<(), Fault> {
     match held(body, key)? {
         Some(value) => write_value(value, replies),
@@ -67,7 +68,7 @@ fn tell(body: &mut dyn ShardBody, key: &[u8], replies: &mut Replies) -> Result<(
     Ok(replies.are_whole()?)
 }
 
-/// MGET: answers what each key holds.
+/// MGET: answers the value of each key.
 pub(super) fn get_all(
     command: Command<'_>,
     body: &mut dyn ShardBody,
@@ -87,8 +88,8 @@ pub(super) fn get_all(
     Ok(())
 }
 
-/// Whether the values of all keys may be one reply: of what is larger nothing is copied, or many such commands would
-/// hold a shard for long.
+/// Returns whether the values of all keys fit into one reply. If they don't, nothing is copied, because many such
+/// commands would occupy a shard for long.
 fn may_fit(body: &mut dyn ShardBody, command: Command<'_>) -> Result<bool, Fault> {
     let mut size = 0;
     for key in command.from(1).iter() {
@@ -100,7 +101,7 @@ fn may_fit(body: &mut dyn ShardBody, command: Command<'_>) -> Result<bool, Fault
     Ok(true)
 }
 
-/// How many bytes so many are as an answer.
+/// Returns how many bytes a text of this length takes in an answer.
 fn size_of_bulk(length: usize) -> usize {
     "$\r\n\r\n".len() + Digits::new(length as i64).as_bytes().len() + length
 }
@@ -116,7 +117,7 @@ pub(super) fn length(
     Ok(())
 }
 
-/// TYPE: answers whether the key holds anything.
+/// TYPE: answers whether the key has a value.
 pub(super) fn kind(
     command: Command<'_>,
     body: &mut dyn ShardBody,
@@ -129,7 +130,7 @@ pub(super) fn kind(
     Ok(())
 }
 
-/// EXISTS: answers how many of the keys hold something.
+/// EXISTS: answers how many of the keys have a value.
 pub(super) fn exists(
     command: Command<'_>,
     body: &mut dyn ShardBody,
@@ -138,7 +139,7 @@ pub(super) fn exists(
     count(command, replies, |key| is_held(body, key))
 }
 
-/// DEL: has the keys hold nothing, and answers how many of them held something.
+/// DEL: deletes the keys, and answers how many of them had a value.
 pub(super) fn delete(
     command: Command<'_>,
     body: &mut dyn ShardBody,
@@ -147,7 +148,7 @@ pub(super) fn delete(
     count(command, replies, |key| remove(body, key))
 }
 
-/// Answers how many of the keys count.
+/// Answers for how many of the keys the closure returns true.
 fn count(
     command: Command<'_>,
     replies: &mut Replies,
@@ -165,7 +166,7 @@ fn is_held(body: &mut dyn ShardBody, key: &[u8]) -> Result<bool, Fault> {
     Ok(body.measure(key)?.is_some())
 }
 
-/// Has the key hold nothing, and returns whether it held something until now.
+/// Deletes the key, and returns whether it had a value.
 fn remove(body: &mut dyn ShardBody, key: &[u8]) -> Result<bool, Fault> {
     match body.apply(BodyRequest::Delete(key)) {
         BodyReply::Refused(refusal) => Err(refusal.into()),
@@ -173,7 +174,7 @@ fn remove(body: &mut dyn ShardBody, key: &[u8]) -> Result<bool, Fault> {
     }
 }
 
-/// Has the key hold the text.
+/// Sets the key to the text.
 fn put(body: &mut dyn ShardBody, key: &[u8], text: &[u8]) -> Result<(), Fault> {
     Ok(body.put(key, value_of(text))?)
 }
@@ -212,7 +213,7 @@ impl SetOptions {
     }
 }
 
-/// SET: has the key hold the text.
+/// SET: sets the key to the text.
 pub(super) fn set(
     command: Command<'_>,
     body: &mut dyn ShardBody,
@@ -243,7 +244,7 @@ pub(super) fn set(
     Ok(())
 }
 
-/// SETNX: has the key hold the text if it holds nothing, and answers whether it held nothing.
+/// SETNX: sets the key to the text if it has no value, and answers whether it did so.
 pub(super) fn set_new(
     command: Command<'_>,
     body: &mut dyn ShardBody,
@@ -261,7 +262,7 @@ pub(super) fn set_new(
     Ok(())
 }
 
-/// GETSET: has the key hold the text, and answers what it held.
+/// GETSET: sets the key to the text, and answers the old value.
 pub(super) fn get_and_set(
     command: Command<'_>,
     body: &mut dyn ShardBody,
@@ -275,7 +276,7 @@ pub(super) fn get_and_set(
     put(body, key, text)
 }
 
-/// GETDEL: has the key hold nothing, and answers what it held.
+/// GETDEL: deletes the key, and answers the old value.
 pub(super) fn get_and_delete(
     command: Command<'_>,
     body: &mut dyn ShardBody,
@@ -285,7 +286,7 @@ pub(super) fn get_and_delete(
     remove(body, command.get(1)).map(drop)
 }
 
-/// GETRANGE: answers the bytes from one place to another, both counted from the end if they are below 0.
+/// GETRANGE: answers the bytes from one place to another. A place below 0 is counted from the end.
 pub(super) fn get_range(
     command: Command<'_>,
     body: &mut dyn ShardBody,
@@ -304,7 +305,7 @@ pub(super) fn get_range(
     Ok(replies.are_whole()?)
 }
 
-/// The bytes of the text from `start` to `end`, which is among them, as Redis counts.
+/// Returns the bytes of the text from `start` to `end`, inclusive, as Redis counts.
 fn part_of(text: &[u8], start: i64, end: i64) -> &[u8] {
     let length = text.len() as i64;
     if start < 0 && end < 0 && start > end {
@@ -321,8 +322,8 @@ fn part_of(text: &[u8], start: i64, end: i64) -> &[u8] {
     }
 }
 
-/// SETRANGE: has the key's text hold these bytes from one place on, behind zeros if it is shorter, and answers how many
-/// bytes it has since then.
+/// SETRANGE: writes these bytes into the key's text from one place on. If the text is shorter, it is filled up with
+/// zeros first. Answers the new length.
 pub(super) fn set_range(
     command: Command<'_>,
     body: &mut dyn ShardBody,
@@ -349,7 +350,7 @@ pub(super) fn set_range(
     Ok(())
 }
 
-/// A copy of what the key holds, with room for so many bytes.
+/// Returns a copy of the key's text, with room for so many bytes.
 fn text_of(body: &mut dyn ShardBody, key: &[u8], room: usize) -> Result<Vec<u8>, Fault> {
     let mut text = Vec::new();
     memory::reserve(&mut text, room)?;
@@ -362,7 +363,8 @@ fn text_of(body: &mut dyn ShardBody, key: &[u8], room: usize) -> Result<Vec<u8>,
     Ok(text)
 }
 
-/// Whether each key of the command, as MSET has them, has a value that is short enough, so that all are set or none.
+/// Checks that each key of the command has a value, as in MSET, and that each value is short enough. So either all keys
+/// are set or none.
 pub(super) fn check_values(name: &str, command: Command<'_>) -> Result<(), Fault> {
     if command.len() % 2 == 0 {
         return Err(Fault::WrongArity(name.into()));
@@ -374,7 +376,7 @@ pub(super) fn check_values(name: &str, command: Command<'_>) -> Result<(), Fault
     }
 }
 
-/// MSET: has each key hold its text.
+/// MSET: sets each key to its text.
 pub(super) fn set_all(
     command: Command<'_>,
     body: &mut dyn ShardBody,
@@ -394,7 +396,7 @@ fn put_all(body: &mut dyn ShardBody, command: Command<'_>) -> Result<(), Fault> 
     Ok(())
 }
 
-/// MSETNX: has each key hold its text if none of them holds anything, and answers whether that was so.
+/// MSETNX: sets each key to its text if none of them has a value, and answers whether it did so.
 pub(super) fn set_all_new(
     command: Command<'_>,
     body: &mut dyn ShardBody,
@@ -412,7 +414,7 @@ pub(super) fn set_all_new(
     Ok(())
 }
 
-/// Has each key, none of which holds anything, hold its text; or none, where memory is refused.
+/// Sets each key, none of which has a value, to its text. If memory is refused, it sets none.
 fn put_all_or_none(body: &mut dyn ShardBody, command: Command<'_>) -> Result<(), Fault> {
     let made = put_all(body, command);
     if made.is_err() {
@@ -501,7 +503,7 @@ fn add_number(
     Ok(())
 }
 
-/// Adds to a text that APPEND made a number.
+/// Adds to a text that APPEND turned into a number.
 fn add_to_text(body: &mut dyn ShardBody, key: &[u8], number: i64) -> Result<i64, Fault> {
     let before = match held(body, key)? {
         Some(ValueRef::Text(text)) => number::parse(text),
@@ -516,7 +518,7 @@ fn add_to_text(body: &mut dyn ShardBody, key: &[u8], number: i64) -> Result<i64,
     Ok(sum)
 }
 
-/// APPEND: adds to the key's text, and answers how many bytes it has since then.
+/// APPEND: appends to the key's text, and answers the new length.
 pub(super) fn append(
     command: Command<'_>,
     body: &mut dyn ShardBody,
@@ -533,7 +535,7 @@ pub(super) fn append(
     Ok(())
 }
 
-/// Adds to the digits of a count, which may be a count again.
+/// Appends to the digits of a count. The result may be a count again.
 fn append_to_count(body: &mut dyn ShardBody, key: &[u8], more: &[u8]) -> Result<usize, Fault> {
     let mut text = text_of(body, key, more.len())?;
     memory::append(&mut text, more)?;
@@ -559,7 +561,7 @@ mod tests {
         text.trim_end().to_owned()
     }
 
-    /// A body that is refused memory once so many keys were written.
+    /// A body to which memory is refused after so many keys were written.
     struct Refused(ProvedBody, usize);
 
     impl ShardBody for Refused {
@@ -612,7 +614,7 @@ mod tests {
         told_so(&mut body, "MSET d 1 e 2", "-OOM memory was refused");
     }
 
-    /// Lines, and what Redis 7 answers each of them.
+    /// Lines, and Redis 7's answers to them.
     const LINES: [(&str, &str); 76] = [
         ("SETRANGE r 2 hi", ":4"),
         ("GETRANGE r 2 9", "$2 hi"),

@@ -21,15 +21,15 @@ use crate::wait::{NotAdmitted, Wait};
 use std::ops::ControlFlow::{self, Break, Continue};
 use std::sync::Arc;
 
-/// How many bytes are written, and not sent, before no further command is done.
+/// After this many bytes that are written and not sent, no further command is done.
 const MOST_UNSENT: usize = 1 << 20;
-/// How many commands are done under one permit, so that others come to the shard.
+/// The most commands that are done under one permit, so that others get their turn on the shard.
 const MOST_OF_A_PERMIT: u64 = 128;
-/// How much memory there has to be for a command of the control: so much, and so much for a line of each shard.
+/// How much memory must be free for a command of the control: this much, and more for the line of each shard.
 const LEAST_OF_CONTROL: usize = 64 << 10;
 const MOST_OF_LINE: usize = 512;
 
-/// Does a thread's commands.
+/// Executes a thread's commands.
 #[derive(Debug)]
 pub struct Executor {
     cluster: Arc<Cluster>,
@@ -41,7 +41,7 @@ pub struct Executor {
 }
 
 impl Executor {
-    /// One for a thread that is admitted so.
+    /// Makes the executor of a thread with this admission.
     pub fn new(cluster: Arc<Cluster>, admission: Admission, keyspace: Keyspace) -> Executor {
         let is_durable = !admission.has_passes();
         Executor {
@@ -53,13 +53,13 @@ impl Executor {
         }
     }
 
-    /// How the thread is admitted.
+    /// Returns the thread's admission.
     pub fn admission(&mut self) -> &mut Admission {
         &mut self.admission
     }
 
-    /// Does the commands at the front of the input until one can't be done; returns how many bytes are done with, and
-    /// why it ended there.
+    /// Does the commands at the front of the input until one can't be done. Returns how many bytes are done with, and
+    /// why it stopped there.
     pub fn run(
         &mut self,
         session: &mut Session,
@@ -68,7 +68,7 @@ impl Executor {
     ) -> (usize, Stop) {
         let mut arguments = std::mem::take(&mut self.arguments);
         let mut reader = Reader::new(input, &mut arguments);
-        // What the next command does, and the shard of its keys, where that was found out already.
+        // The next command's row and the shard of its keys, if they are known already.
         let mut next = None;
         let stop = loop {
             let is_full = replies.unsent().len() >= session.most_unsent(MOST_UNSENT);
@@ -85,7 +85,8 @@ impl Executor {
         (done, stop)
     }
 
-    /// Refuses the command at the front of the input, which has waited in vain; returns how many bytes it has.
+    /// Refuses the command at the front of the input, which has waited in vain. Returns the length of the command in
+    /// bytes.
     pub fn refuse(
         &mut self,
         session: &mut Session,
@@ -108,7 +109,7 @@ impl Executor {
         reader.at()
     }
 
-    /// Refuses a command that was too large, once it was read to its end.
+    /// Refuses a command that was too large, after it was read to its end.
     pub fn refuse_oversized(
         &mut self,
         session: &mut Session,
@@ -119,8 +120,8 @@ impl Executor {
         self.admission.stats().commands.add(1);
     }
 
-    /// Does the next command, which does this with keys of one shard, if that was found out already. Returns what the
-    /// one behind it does, where it looked at that.
+    /// Does the next command. If it is already known that it has keys of one shard, `next` says so. Returns the same of
+    /// the command behind it, if it looked at that.
     #[inline]
     fn turn(
         &mut self,
@@ -139,7 +140,7 @@ impl Executor {
         }
     }
 
-    /// Does the next command, unless it is done with keys of one shard: then it returns what that does.
+    /// Does the next command, unless it has keys of one shard: then it returns its row and that shard.
     fn step(
         &mut self,
         session: &mut Session,
@@ -172,7 +173,7 @@ impl Executor {
         };
         let whole = replies.are_whole().map_err(Fault::from);
         let done = whole.map_err(Into::into).and(done);
-        // What ends the turn or the connection was answered.
+        // If the turn or the connection ends, the command was answered before.
         if !matches!(done, Ok(()) | Err(Unanswered::Long | Unanswered::End)) {
             replies.take_back(mark);
         }
@@ -180,8 +181,8 @@ impl Executor {
         Continue(None)
     }
 
-    /// Stops where the next commands ask something of shards whose data outlives the process. Returns whether the next
-    /// one is refused.
+    /// Stops if the next commands ask something of shards whose data outlives the process. Returns whether the next
+    /// command is refused.
     fn next_request(
         &self,
         session: &mut Session,
@@ -199,7 +200,7 @@ impl Executor {
         }
     }
 
-    /// Goes behind a command that was done or refused; one that waits stays.
+    /// Advances behind a command that was done or refused. A command that waits stays.
     fn settle(
         &self,
         done: Result<(), Unanswered>,
@@ -217,7 +218,7 @@ impl Executor {
                 .peek()
                 .ok()
                 .map(|it| Stop::Control(OwnedCommand::new(it))),
-            // Nothing is told to a web page, and what is behind it isn't done.
+            // A web page gets no answer, and the rest of its input isn't done.
             Err(Unanswered::Fault(Fault::UnknownCommand(..)))
                 if reader.peek().is_ok_and(cross_protocol::is_of_web) =>
             {
@@ -225,7 +226,7 @@ impl Executor {
                 Some(Stop::End)
             }
             Err(Unanswered::Fault(fault)) => {
-                // Much was read in vain: others have their turn.
+                // Much was read in vain, so others have their turn first.
                 let is_long = matches!(fault, Fault::ReplyTooLarge | Fault::ManyKeys);
                 let named = reader.peek().ok().and_then(|it| Spec::named(it.get(0)));
                 let fault = in_part(named, session).unwrap_or(fault);
@@ -238,8 +239,8 @@ impl Executor {
         stop.map_or(Continue(()), Break)
     }
 
-    /// Does the next command, and those behind it while they are of the same shard, under one permit. Returns what the
-    /// command behind them does, where it looked at that.
+    /// Does the next command, and those behind it as long as they are of the same shard, under one permit. Returns the
+    /// row and shard of the command behind them, if it looked at that.
     fn data(
         &mut self,
         (mut spec, shard): Keyed,
@@ -279,8 +280,8 @@ impl Executor {
         }
     }
 
-    /// Does the keys of the command one by one, each under a permit of its own. While one waits, those before it stay
-    /// done; but what they hold is read anew.
+    /// Does the keys of the command one by one, each under its own permit. If a key waits, those before it stay done;
+    /// but their values are read anew.
     fn each(
         &mut self,
         spec: &'static Spec,
@@ -369,7 +370,7 @@ impl Executor {
         Ok(())
     }
 
-    /// Puts a command off that gives a password, where wrong ones were given before it.
+    /// Puts off a command that gives a password, if wrong passwords were given before it.
     fn may_guess(
         &self,
         word: TalkWord,
@@ -391,7 +392,7 @@ impl Executor {
         Scanner::new(&mut self.admission, &self.keyspace, &self.cluster.cursors)
     }
 
-    /// Does what asks a server, or for a key's shard; all else is the control's.
+    /// Does the commands that ask a server, or for a key's shard. All others go to the control.
     fn control(&mut self, command: Command<'_>, replies: &mut Replies) -> Result<(), Unanswered> {
         if command.is(1, "AT") && command.len() > 3 {
             return self.at_server(command, replies);
@@ -404,7 +405,7 @@ impl Executor {
         if command.is(1, "LOAD") && CEILING.is_passed() {
             return Err(Fault::MaxMemory.into());
         }
-        // What the control tells of all shards may be long.
+        // The control's answer about all shards may be long.
         let lines = MOST_OF_LINE * usize::from(self.cluster.shards());
         let most = LEAST_OF_CONTROL + lines + command.size();
         memory::has_room(most).map_err(Fault::from)?;
@@ -432,7 +433,7 @@ impl Executor {
         Ok(())
     }
 
-    /// Does the commands of the transaction under one permit. While it waits the transaction stays.
+    /// Does the commands of the transaction under one permit. If it waits, the transaction stays.
     fn exec(&mut self, session: &mut Session, replies: &mut Replies) -> Result<(), Unanswered> {
         let Some(transaction) = session.transaction.take() else {
             return Err(Fault::NoMulti("EXEC").into());
@@ -440,7 +441,7 @@ impl Executor {
         if transaction.is_aborted() {
             return Err(Fault::Aborted.into());
         }
-        // What it changes is always told.
+        // A change must be answered truly, so there must be room for the answer.
         let kept = replies.keep_room(transaction.len() as usize);
         kept.map_err(Fault::from)?;
         let cluster = &self.cluster;
@@ -465,8 +466,8 @@ impl Executor {
     }
 }
 
-/// Returns what is told if the session's next command, which is of this row, is refused after it has waited; none if
-/// nothing has changed. The command behind it begins anew.
+/// Returns the refusal of the session's next command, which is of this row, if the command is refused after it has
+/// waited. Returns nothing if nothing has changed. The command behind it begins anew.
 fn in_part(named: Option<&Spec>, session: &mut Session) -> Option<Fault> {
     let progress = std::mem::take(&mut session.progress);
     named.and_then(|it| it.in_part(progress))
@@ -486,12 +487,12 @@ mod tests {
     use crate::settings::MAX_CEILING;
     use crate::stats::Stats;
 
-    /// A cluster of two servers, the first of which owns both shards, and what does a thread's commands there.
+    /// Returns a cluster of two servers, the first of which owns both shards, and a thread's executor there.
     fn begun() -> (Arc<Cluster>, Executor) {
         begun_below(MAX_CEILING)
     }
 
-    /// The same, where generations stay below this.
+    /// Does the same, with generations below this one.
     fn begun_below(ceiling: u64) -> (Arc<Cluster>, Executor) {
         let rule = Rule::Bounds(vec![Vec::new(), b"m".to_vec()]);
         let keyspace = Keyspace::new(&rule).unwrap();
@@ -509,7 +510,7 @@ mod tests {
         (cluster, executor)
     }
 
-    /// Does commands in as many turns as they take; returns how many bytes are done with, and why it ended there.
+    /// Does commands in as many turns as they take. Returns how many bytes are done with, and why it stopped there.
     fn done(
         executor: &mut Executor,
         session: &mut Session,
@@ -526,7 +527,7 @@ mod tests {
         }
     }
 
-    /// What lines are answered, and why it ended.
+    /// Returns the answers to lines, and why it stopped.
     fn told(executor: &mut Executor, session: &mut Session, lines: &str) -> (String, Stop) {
         let mut replies = Replies::default();
         let (_, stop) = done(executor, session, lines.as_bytes(), &mut replies);
@@ -574,7 +575,7 @@ mod tests {
         let mut told = |lines: &str| told(&mut executor, &mut session, lines).0;
         told(&format!("SET a {}\nSET f 1\n", "x".repeat(60_000)));
         let refused = "-TOOLARGE a reply has at most 8388608 bytes";
-        // Of so many some have no room.
+        // Among so many commands, some have no room.
         told(&format!("MULTI\n{}", "GET a\n".repeat(200)));
         told("INCR b\nSET c 1\nSET d 1 NX\nSET e 1 GET\nGET f\nCLIENT ID\nDEL f\n");
         told("SETRANGE h 1 x\nINCRBYFLOAT i 1\nGETDEL c\n");
@@ -584,7 +585,7 @@ mod tests {
         assert!(text.starts_with("*210 $60000 ") && text.ends_with(&behind));
         assert_eq!(text.matches(refused).count(), 200 - 139 + 4);
         assert_eq!(told("MGET b c d e f i\n"), "*6 $1 1 $1 1 $1 1 $-1 $-1 $-1");
-        // One that is too large by itself takes no room from others.
+        // A command that is too large by itself takes no room from others.
         told(&format!(
             "MULTI\nMGET{}\nGET b\nSET b 2 GET\n",
             " a".repeat(200)
@@ -600,7 +601,7 @@ mod tests {
             let mut session = Session::new(1, true);
             let set = format!("SET a {}\n", "x".repeat(60_000));
             told(&mut executor, &mut session, &set);
-            // Of one that takes any number so many as make an answer that is large, and none by itself too large.
+            // If a command takes any number of keys, it has as many as make its answer large, but not too large.
             let arguments = match (spec.keys, spec.arity) {
                 (Keys::All, ..=0) => 100,
                 (_, arity) => arity.unsigned_abs() as usize - 1,
@@ -818,7 +819,7 @@ mod tests {
         ] {
             assert_eq!(answers(&mut executor, lines), told, "{lines}");
         }
-        // It goes on where it waited, and a shard before that keeps what was written meanwhile.
+        // It goes on at the key where it waited. A shard before that keeps the value that was written meanwhile.
         answers(&mut executor, "MSET a 1 z 2\n");
         cluster.board().control().pause(1).unwrap();
         let mut session = Session::new(1, true);
@@ -1003,7 +1004,7 @@ mod tests {
         }
     }
 
-    /// Commands of all kinds, good and bad ones.
+    /// Returns commands of all kinds, good ones and bad ones.
     fn some_commands(chance: &mut Chance) -> Vec<u8> {
         let lines = [
             "GET a",

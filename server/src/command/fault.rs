@@ -12,10 +12,10 @@ use std::fmt;
 /// The most bytes of a client's words that an error repeats.
 const MOST_SHOWN: usize = 128;
 
-/// Why a command is refused: in Redis' words where Redis has the case.
+/// Why a command is refused. If Redis has the case, the fault has Redis' words.
 #[derive(Clone, Debug, PartialEq, Eq)]
 pub enum Fault {
-    /// There is no such command; its name and its arguments, cut.
+    /// There is no such command. The fault has its name and its arguments, cut.
     UnknownCommand(Shown, Shown),
     /// The command takes another number of arguments.
     WrongArity(String),
@@ -23,25 +23,25 @@ pub enum Fault {
     UnknownSubcommand(&'static str, Shown),
     /// The command has too many arguments or bytes.
     Oversized(Oversized),
-    /// An option is unknown, or doesn't go with another one.
+    /// An option is unknown, or can't be combined with another one.
     Syntax,
-    /// An option that has keys expire.
+    /// The option would make keys expire, and keys don't expire here.
     NoExpiry,
-    /// A number is none, or lies outside of 64 bits.
+    /// A number is malformed, or doesn't fit into 64 bits.
     NotInteger,
-    /// A sum lies outside of 64 bits.
+    /// A sum doesn't fit into 64 bits.
     Overflow,
-    /// A number that may have a fraction is none, or out of range.
+    /// A number that may have a fraction is malformed, or out of range.
     NotFloat,
-    /// A sum of such numbers would be infinite, or none.
+    /// A sum of such numbers would be infinite, or isn't a number.
     InfiniteSum,
     /// The place of a byte is below 0.
     BadOffset,
-    /// KEYS would give more keys, or look at more, than it may.
+    /// KEYS would return more keys, or look at more, than it may.
     ManyKeys,
-    /// FLUSHDB deleted the keys of some shards, and not of others.
+    /// FLUSHDB deleted the keys of some shards, but not those of others.
     FlushedInPart,
-    /// The opposite of a number lies outside of 64 bits.
+    /// The negative of a number doesn't fit into 64 bits.
     NoOpposite,
     /// A text would be too long.
     TooLong,
@@ -49,9 +49,9 @@ pub enum Fault {
     LongPattern,
     /// Memory was refused, and nothing has changed.
     NoMemory,
-    /// More memory is in use than may be.
+    /// More memory is in use than allowed.
     MaxMemory,
-    /// The same, by which EXEC discards the transaction.
+    /// More memory is in use than allowed, so EXEC discards the transaction.
     ExecMaxMemory,
     /// A key is too long, or empty.
     BadKey,
@@ -59,13 +59,13 @@ pub enum Fault {
     CrossShard,
     /// The reply would be too long.
     ReplyTooLarge,
-    /// The cursor of SCAN is none that was given lately.
+    /// The cursor of SCAN wasn't given lately.
     BadCursor,
     /// MULTI within a transaction.
     NestedMulti,
-    /// EXEC or DISCARD without MULTI, by its name.
+    /// EXEC or DISCARD without MULTI. The fault has the command's name.
     NoMulti(&'static str),
-    /// EXEC has an argument, by which it discards the transaction.
+    /// EXEC has an argument, so the transaction is discarded.
     ExecArity,
     /// A command was refused when it was queued, so the transaction isn't executed.
     Aborted,
@@ -73,60 +73,60 @@ pub enum Fault {
     NotQueued,
     /// The transaction has too many commands or bytes.
     QueueFull,
-    /// Its commands have more than so many arguments, where data outlives the process.
+    /// The transaction's commands have more arguments than this, over data that outlives the process.
     QueueOfMany(usize),
-    /// It makes more than so many writes, where data outlives the process.
+    /// The transaction makes more writes than this, over data that outlives the process.
     QueueOfWrites(usize),
-    /// The client has to give the password first.
+    /// The client must give the password first.
     NoAuth,
-    /// Another password than the server's.
+    /// The password isn't the server's.
     WrongPassword,
-    /// Another password in a transaction, where wrong ones were given lately.
+    /// A transaction gives a password again, although wrong ones were given lately.
     TooSoon,
-    /// As many clients have shown who they are as there may be.
+    /// As many clients have logged in as allowed.
     ManyClients,
-    /// A password, where the server has none.
+    /// The client gave a password, but the server has none.
     NoPassword,
-    /// The client's role may not send the command, by its name.
+    /// The client's role may not send the command. The fault has the command's name.
     NoPermission(String),
-    /// There is database 0 alone.
+    /// There is only database 0.
     BadDatabase,
-    /// A version of the protocol that isn't spoken.
+    /// The version of the protocol isn't supported.
     BadProtocol,
-    /// A version of the protocol that is no number.
+    /// The version of the protocol isn't a number.
     NoProtocol,
-    /// HELLO has no such option, or it lacks what belongs to it; the option, cut.
+    /// HELLO has no such option, or the option lacks its argument. The fault has the option, cut.
     HelloOption(Shown),
-    /// A client's name has spaces or other bytes that names haven't.
+    /// A client's name has spaces or other bytes that aren't allowed in names.
     BadName,
-    /// A server that there isn't.
+    /// There is no such server.
     UnknownServer,
     /// A command for a server has no keys.
     NoKeys,
-    /// A command with keys of several shards, or that writes much, has no number.
+    /// A command with keys of several shards, or with many writes, can't have a number.
     NotNumbered,
-    /// A command that doesn't write without reading first has no number, by its name.
+    /// A command that doesn't write, or that reads first, can't have a number. The fault has its name.
     NotBlind(&'static str),
-    /// The number of a client, or that of its request, is out of bounds.
+    /// The client's number, or the number of its request, is out of bounds.
     BadNumber,
-    /// The command is there for data in memory alone.
+    /// The command exists only in memory mode.
     NotDurable(&'static str),
-    /// A shard whose data outlives the process didn't do it, or isn't known to have done it.
+    /// A shard whose data outlives the process didn't do the command, or may not have done it.
     NotDone(u16, NotDone),
-    /// A command with keys of several shards wasn't done with all of them, and with others it was, or may have been.
+    /// A command with keys of several shards wasn't done with all of them. With others it was done, or may have been.
     InPart,
-    /// The board refuses the admission, and no waiting mends that.
+    /// The board refuses the admission, and waiting doesn't help.
     NotAdmitted(AdmitFault),
 }
 
 impl Fault {
-    /// That the command takes another number of arguments.
+    /// Returns the fault that the command takes another number of arguments.
     #[cold]
     pub fn wrong_arity(name: &str) -> Fault {
         Fault::WrongArity(name.into())
     }
 
-    /// That there is no such command.
+    /// Returns the fault that there is no such command.
     #[cold]
     pub fn unknown_command(command: Command<'_>) -> Fault {
         let mut shown = Vec::new();
@@ -140,23 +140,23 @@ impl Fault {
         Fault::UnknownCommand(Shown::of(command.get(0), MOST_SHOWN), shown.into())
     }
 
-    /// That the client's role may not send this subcommand.
+    /// Returns the fault that the client's role may not send this subcommand.
     pub fn no_permission(name: &str, word: &[u8]) -> Fault {
         let word = Shown::of(word, MOST_SHOWN);
         Fault::NoPermission(format!("{name}|{word}").to_ascii_lowercase())
     }
 
-    /// That HELLO has no such option, or that it lacks what belongs to it.
+    /// Returns the fault that HELLO has no such option, or that the option lacks its argument.
     pub fn hello_option(option: &[u8]) -> Fault {
         Fault::HelloOption(Shown::of(option, MOST_SHOWN))
     }
 
-    /// That the command has no such subcommand.
+    /// Returns the fault that the command has no such subcommand.
     pub fn unknown_subcommand(name: &'static str, word: &[u8]) -> Fault {
         Fault::UnknownSubcommand(name, Shown::of(word, MOST_SHOWN))
     }
 
-    /// Answers it, with a client's own words as they came.
+    /// Writes the fault as an answer, with the client's own words as they came.
     pub fn answer(&self, replies: &mut Replies) {
         let told = match self {
             Fault::UnknownCommand(name, shown) => {
@@ -188,7 +188,7 @@ impl Fault {
 pub struct Shown(Box<[u8]>);
 
 impl Shown {
-    /// The first bytes, so many at most, and none behind a zero, as in Redis.
+    /// Returns the first bytes, at most so many, and none from a zero byte on, as in Redis.
     fn of(bytes: &[u8], most: usize) -> Shown {
         let front = &bytes[..bytes.len().min(most)];
         let end = front.iter().position(|it| *it == 0);
@@ -206,14 +206,14 @@ impl From<Vec<u8>> for Shown {
     }
 }
 
-/// What is no text is shown as such.
+/// Bytes that aren't UTF-8 are shown with replacement characters.
 impl fmt::Display for Shown {
     fn fmt(&self, f: &mut fmt::Formatter<'_>) -> fmt::Result {
         f.write_str(&String::from_utf8_lossy(&self.0))
     }
 }
 
-/// That a key is too long, or empty.
+/// A key is too long, or empty.
 #[derive(Clone, Copy, Debug, PartialEq, Eq)]
 pub struct BadKey;
 
@@ -255,7 +255,7 @@ impl From<BodyRefusal> for Fault {
     }
 }
 
-/// The name of a fault, without what was read.
+/// Returns the name of a fault, without the fields that follow it.
 pub fn name_of(fault: &impl fmt::Debug) -> String {
     let shown = format!("{fault:?}");
     shown.split('(').next().unwrap_or_default().to_owned()
@@ -334,7 +334,7 @@ impl fmt::Display for Fault {
     }
 }
 
-/// One of which it depends what is said.
+/// Writes a fault whose words depend on its fields.
 fn composed(f: &mut fmt::Formatter<'_>, fault: &Fault) -> fmt::Result {
     match fault {
         Fault::UnknownCommand(name, shown) => unknown(f, name, shown),
@@ -421,7 +421,7 @@ fn unknown_subcommand(f: &mut fmt::Formatter<'_>, name: &str, word: &Shown) -> f
     write!(f, "ERR unknown subcommand '{word}'. Try {name} HELP.")
 }
 
-/// Why a shard whose data outlives the process didn't do it, with what to do.
+/// Writes why a shard whose data outlives the process didn't do the command, and the advice.
 fn not_done(f: &mut fmt::Formatter<'_>, shard: u16, why: &NotDone) -> fmt::Result {
     match why {
         NotDone::Paused => write!(f, "{}", Wait::Paused(shard)),
@@ -432,11 +432,12 @@ fn not_done(f: &mut fmt::Formatter<'_>, shard: u16, why: &NotDone) -> fmt::Resul
         NotDone::Damaged(_) => write!(f, "SHARDDAMAGED shard {shard}: {why}: restore the folder"),
         NotDone::Full(_) => write!(
             f,
-            "STOREFULL nothing has changed, and reads go on: {why}: make room, as by DEL and SM COMPACT"
+            "STOREFULL nothing has changed, and reads go on: {why}: make room by SM COMPACT, and in \
+             a folder by DEL before"
         ),
         NotDone::TooLarge(_) => write!(f, "TOOLARGE nothing has changed: {why}: send it in parts"),
         NotDone::NotMade(_) => write!(f, "STOREDOWN nothing has changed: {why}"),
-        // Clients know this name of Redis', and try again.
+        // Clients know this name from Redis, and try again.
         NotDone::Unread => write!(
             f,
             "LOADING nothing has changed: the server of shard {shard} hasn't read it yet: try again"
@@ -453,7 +454,7 @@ fn not_done(f: &mut fmt::Formatter<'_>, shard: u16, why: &NotDone) -> fmt::Resul
     }
 }
 
-/// Why the board refuses the admission, with what to do.
+/// Writes why the board refuses the admission, and the advice.
 fn not_admitted(f: &mut fmt::Formatter<'_>, fault: AdmitFault) -> fmt::Result {
     let advice = match fault {
         AdmitFault::Vacant(_) => "SM PLACE gives the shard an owner",

@@ -3,11 +3,11 @@ use super::Fault;
 use crate::memory;
 use crate::resp::{Command, Replies};
 
-/// How many keys KEYS gives at most, and at how many it looks.
+/// The most keys that KEYS returns, and the most keys that it looks at.
 pub const MOST_FOUND: usize = 10_000;
 pub const MOST_SEEN: usize = 1_000_000;
-/// At how many bytes it looks at most: in memory it reads what keys hold, too. That takes as long as to look at so many
-/// short keys.
+/// The most bytes that KEYS looks at, because in memory it reads the values, too. That takes as long as to look at so
+/// many short keys.
 pub const MOST_SEEN_BYTES: usize = 512 << 20;
 
 /// The keys that KEYS has found.
@@ -20,7 +20,7 @@ pub(super) struct FoundKeys {
 }
 
 impl FoundKeys {
-    /// Returns none, for this command; refused if its pattern is too long.
+    /// Makes an empty result for this command. Refuses the command if its pattern is too long.
     pub(super) fn new(command: Command<'_>) -> Result<FoundKeys, Fault> {
         Ok(FoundKeys {
             pattern: Pattern::new(command.get(1))?,
@@ -30,11 +30,11 @@ impl FoundKeys {
         })
     }
 
-    /// Adds those of these keys that match, for which so many bytes were read.
+    /// Adds those of these keys that match. So many bytes were read for them.
     ///
     /// # Errors
     ///
-    /// If they are more than an answer may have, or it looked at more than it may, or memory for them is refused.
+    /// If the keys are more than an answer may have, if more was read than allowed, or if memory is refused.
     pub(super) fn add(&mut self, keys: Vec<Box<[u8]>>, bytes: usize) -> Result<(), Fault> {
         self.seen += keys.len();
         self.seen_bytes += bytes;
@@ -48,7 +48,7 @@ impl FoundKeys {
         }
     }
 
-    /// Answers by them.
+    /// Writes the answer.
     pub(super) fn answer(&self, replies: &mut Replies) {
         replies.array(self.found.len());
         self.found.iter().for_each(|it| replies.bulk(it));

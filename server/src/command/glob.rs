@@ -1,6 +1,6 @@
 use super::byte_set::ByteSet;
 
-/// The most bytes of a pattern: a part of it may be looked at for each byte of a text.
+/// The most bytes of a pattern. A match may look at a part of the pattern for each byte of a text.
 pub const MAX_PATTERN: usize = 1_024;
 
 /// A pattern has more than [`MAX_PATTERN`] bytes.
@@ -21,11 +21,11 @@ enum PatternPart {
 }
 
 impl Pattern {
-    /// The pattern that is written so.
+    /// Parses the pattern.
     ///
     /// # Errors
     ///
-    /// [`LongPattern`], where it has more than [`MAX_PATTERN`] bytes.
+    /// [`LongPattern`], if it has more than [`MAX_PATTERN`] bytes.
     pub fn new(mut written: &[u8]) -> Result<Pattern, LongPattern> {
         if written.len() > MAX_PATTERN {
             return Err(LongPattern);
@@ -39,10 +39,10 @@ impl Pattern {
         Ok(Pattern(parts))
     }
 
-    /// Whether the text is of the pattern. The time is at most the product of the lengths.
+    /// Returns whether the text matches the pattern. The time is at most the product of the lengths.
     pub fn is_match(&self, text: &[u8]) -> bool {
         let (mut at, mut rest) = (0, text);
-        // Where to go on when the present try fails: behind the last `*`, and one byte further in the text.
+        // Where to go on if the present try fails: behind the last `*`, and one byte further in the text.
         let mut last: Option<(usize, &[u8])> = None;
         loop {
             match (self.0.get(at), rest) {
@@ -68,7 +68,7 @@ impl Pattern {
     }
 }
 
-/// The first part of a pattern that isn't empty, and how many bytes it has there.
+/// Returns the first part of a pattern that isn't empty, and how many bytes it has there.
 fn first(written: &[u8]) -> (PatternPart, usize) {
     match written {
         [b'*', ..] => (PatternPart::Any, 1),
@@ -83,7 +83,7 @@ fn first(written: &[u8]) -> (PatternPart, usize) {
     }
 }
 
-/// The class behind a `[`, and how long that is with its `]`.
+/// Returns the class behind a `[`, and its length including the `]`.
 fn class_of(class: &[u8]) -> (ByteSet, usize) {
     let is_not = class.first() == Some(&b'^');
     let (mut at, mut bytes) = (usize::from(is_not), ByteSet::default());

@@ -1,4 +1,4 @@
-//! What INFO tells.
+//! The content of INFO.
 use super::talk::REDIS_VERSION;
 use crate::cluster::Cluster;
 use crate::metric::{self, Section};
@@ -20,7 +20,7 @@ const SECTIONS: [NamedSection; 8] = [
     ("Durkenzo", durkenzo),
 ];
 
-/// The sections that the command names, or all where it names none.
+/// Returns the sections that the command names, or all if it names none.
 pub fn told(command: Command<'_>, cluster: &Cluster) -> String {
     let names = command.from(1);
     let is_all = ["all", "default", "everything"];
@@ -29,7 +29,7 @@ pub fn told(command: Command<'_>, cluster: &Cluster) -> String {
             || (0..names.len())
                 .any(|it| names.is(it, section) || is_all.iter().any(|all| names.is(it, all)))
     };
-    // A section without keys would say that there are none.
+    // An empty section would say that there are no keys.
     let is_known = |section: &str| section != "Keyspace" || cluster.storage.has_counts();
     let sections = SECTIONS
         .iter()
@@ -40,24 +40,24 @@ pub fn told(command: Command<'_>, cluster: &Cluster) -> String {
     told.join("\r\n")
 }
 
-/// The numbers that a section has, each with its name there. A number that this process hasn't is left out.
+/// Returns the numbers of a section, each with its name there. A number that this process doesn't have is left out.
 fn numbers(cluster: &Cluster, section: Section) -> impl Iterator<Item = (&'static str, u64)> + '_ {
     metric::all().filter_map(move |it| Some((it.name_in(section)?, it.value(cluster)?)))
 }
 
-/// A line for each number that the section has.
+/// Returns a line for each number of the section.
 fn told_numbers(cluster: &Cluster, section: Section) -> String {
     numbers(cluster, section).fold(String::new(), |text, (name, value)| {
         text + &lines([(name, value.to_string())])
     })
 }
 
-/// A line for each name and its value.
+/// Returns a line for each name and its value.
 fn lines<const N: usize>(values: [(&str, String); N]) -> String {
     values
         .iter()
         .fold(String::new(), |mut text, (name, value)| {
-            // A string takes whatever is written.
+            // Writing to a string never fails.
             let _ = write!(text, "{name}:{value}\r\n");
             text
         })
@@ -85,7 +85,7 @@ fn clients(cluster: &Cluster) -> String {
     told_numbers(cluster, Section::Clients) + &lines([("maxclients", most)])
 }
 
-/// Bytes are told for people, too.
+/// Amounts of memory are also written for people to read.
 fn memory(cluster: &Cluster) -> String {
     let human = |bytes: u64| format!("{:.2}M", bytes as f64 / 1_048_576.0);
     let told = numbers(cluster, Section::Memory).fold(String::new(), |text, (name, bytes)| {
@@ -109,7 +109,7 @@ fn stats(cluster: &Cluster) -> String {
 }
 
 fn cluster(cluster: &Cluster) -> String {
-    // Of Redis' cluster, which clients ask for: this is one to them.
+    // This is about Redis' cluster mode, for which clients ask: to them this is a single server.
     let told = lines([("cluster_enabled", "0".to_owned())]);
     let Some(peers) = cluster.storage.peers() else {
         return told;
@@ -133,10 +133,10 @@ fn keyspace(cluster: &Cluster) -> String {
 fn durkenzo(cluster: &Cluster) -> String {
     let configuration = &cluster.configuration;
     lines([
-        ("servers", configuration.servers.to_string()),
+        ("servers", cluster.presence.servers().to_string()),
         ("shards", cluster.shards().to_string()),
         ("keys_by", configuration.rule.name().to_owned()),
-        ("restarts_at_once", configuration.restarts.to_string()),
+        ("restarts_at_once", cluster.presence.restarts().to_string()),
         ("wait_ms", configuration.wait.as_millis().to_string()),
         (
             "library_is_proved",

@@ -1,34 +1,35 @@
-//! Numbers of 80 bits, by which Redis on x86-64 adds what may have a fraction. They are read, added and written with
-//! the same rounding as by the processor and its C library.
+//! Floating-point numbers of 80 bits, with which Redis on x86-64 adds numbers that may have a fraction. They are read,
+//! added and written with the same rounding as by the processor and its C library.
 use std::cmp::Ordering;
 
 /// The most bytes of a number that is read, as in Redis.
 const MAX_DIGITS: usize = 5 * 1024 - 1;
-/// How many digits are written behind the point at most.
+/// The most digits that are written behind the point.
 const DECIMALS: u32 = 17;
 /// The bits of a mantissa.
 const BITS: u32 = 64;
 /// The least and the greatest exponent of a mantissa that is an integer.
 const LEAST_EXPONENT: i64 = -16_445;
 const GREATEST_EXPONENT: i64 = 16_320;
-/// A number with a digit before the point is out of range beyond these powers of ten.
+/// If a number has a digit before the point, it is out of range beyond these powers of ten.
 const MOST_TENS: i64 = 5_000;
-/// How many decimal digits one limb takes.
+/// How many decimal digits fit into one limb.
 const LIMB_DIGITS: u32 = 19;
 const LIMB: u64 = 10_u64.pow(LIMB_DIGITS);
 
 /// A number of 80 bits.
 #[derive(Clone, Copy, Debug, PartialEq, Eq)]
 pub enum LongDouble {
-    /// Whether it is below 0, its mantissa, and the exponent of two by which that is multiplied. The first bit of the
-    /// mantissa is 1, unless the exponent is the least one.
+    /// Whether it is negative, its mantissa, and the power of two by which the mantissa is multiplied. The first bit of
+    /// the mantissa is 1, unless the exponent is the least one.
     Finite(bool, u64, i64),
-    /// Infinity, and whether it is below 0. It may be read, and is never a sum.
+    /// Infinity, and whether it is negative. It may be read, but is never a sum.
     Infinite(bool),
 }
 
 impl LongDouble {
-    /// Returns the number that is written so, in decimal or hexadecimal; none if it is none, or out of range.
+    /// Parses a number, in decimal or hexadecimal. Returns nothing if the text isn't a number, or if the number is out
+    /// of range.
     pub fn parse(text: &[u8]) -> Option<LongDouble> {
         if text.len() > MAX_DIGITS {
             return None;
@@ -45,7 +46,7 @@ impl LongDouble {
         }
     }
 
-    /// Returns the sum; none if it is infinite.
+    /// Returns the sum, or nothing if it is infinite.
     pub fn plus(self, other: LongDouble) -> Option<LongDouble> {
         let (LongDouble::Finite(..), LongDouble::Finite(..)) = (self, other) else {
             return None;
@@ -54,7 +55,8 @@ impl LongDouble {
             true => (self, other),
             false => (other, self),
         };
-        // There is room for a carry, and for all bits by which the lower one may still decide how the sum is rounded.
+        // There is room for a carry, and for all bits by which the smaller number may still decide how the sum is
+        // rounded.
         let room = i64::from(BITS - 2);
         let exponent = high.exponent() - room;
         let (first, second) = (high.shifted(exponent), low.shifted(exponent));
@@ -62,7 +64,7 @@ impl LongDouble {
         rounded(sum < 0, sum.unsigned_abs(), exponent)
     }
 
-    /// Returns its digits as Redis writes them: with no zeros at the end of a fraction.
+    /// Returns its digits as Redis writes them, without zeros at the end of a fraction.
     pub fn digits(self) -> Vec<u8> {
         let LongDouble::Finite(is_negative, mantissa, exponent) = self else {
             return b"inf".to_vec();
@@ -88,7 +90,7 @@ impl LongDouble {
         }
     }
 
-    /// The number in units of two to this exponent; a bit below them is kept as the last one.
+    /// Returns the number in units of two to this exponent. If bits below that are lost, the last bit is set.
     fn shifted(self, exponent: i64) -> i128 {
         let LongDouble::Finite(is_negative, mantissa, own) = self else {
             return 0;
@@ -102,7 +104,7 @@ impl LongDouble {
                 mantissa >> right | u128::from(is_cut)
             }
         };
-        // It has a bit less than an `i128`, so that a sum has room.
+        // It has a bit less than an `i128`, so there is room for a sum.
         match is_negative {
             true => -(shifted as i128),
             false => shifted as i128,
@@ -132,7 +134,7 @@ impl Radix {
         }
     }
 
-    /// How many digits are surely less than a limb, as is the base to the power of so many.
+    /// Returns how many digits surely fit into a limb. The base to the power of so many fits, too.
     fn limb_digits(self) -> usize {
         match self {
             Radix::Ten => LIMB_DIGITS as usize,
@@ -140,7 +142,7 @@ impl Radix {
         }
     }
 
-    /// The small letter behind which the exponent stands.
+    /// Returns the small letter that precedes the exponent.
     fn mark(self) -> u8 {
         match self {
             Radix::Ten => b'e',
@@ -149,7 +151,7 @@ impl Radix {
     }
 }
 
-/// The number of these digits, in small letters; none if they are none.
+/// Returns the number with these digits, in small letters; or nothing if the text is malformed.
 fn parse_in(base: Radix, text: &[u8], is_negative: bool) -> Option<LongDouble> {
     let end = text.iter().position(|it| *it == base.mark());
     let (written, exponent) = match end {
@@ -182,11 +184,11 @@ fn parse_in(base: Radix, text: &[u8], is_negative: bool) -> Option<LongDouble> {
     };
     let (mantissa, exponent) = found;
     let number = rounded(is_negative, mantissa, exponent)?;
-    // One that is too small for any bit is out of range.
+    // A number that is too small for any bit is out of range.
     (number != LongDouble::zero(is_negative)).then_some(number)
 }
 
-/// The number that stands behind the mark of an exponent, or one that is as good as it.
+/// Returns the exponent behind the mark, or one that has the same effect.
 fn exponent_of(text: &[u8]) -> Option<i64> {
     let (is_negative, digits) = match text {
         [b'-', digits @ ..] => (true, digits),
@@ -199,7 +201,7 @@ fn exponent_of(text: &[u8]) -> Option<i64> {
     are_digits.then_some(if is_negative { -number } else { number })
 }
 
-/// The number of so many digits, times this power of ten; none if it is out of range.
+/// Returns the number with so many digits, times this power of ten; or nothing if it is out of range.
 fn times_ten(number: Big, digits: usize, tens: i64) -> Option<(u128, i64)> {
     let before_point = tens.saturating_add(digits as i64);
     if !(-MOST_TENS..MOST_TENS).contains(&before_point) {
@@ -211,8 +213,8 @@ fn times_ten(number: Big, digits: usize, tens: i64) -> Option<(u128, i64)> {
     })
 }
 
-/// The number nearest to this many times two to the exponent, of two the one whose last bit is 0; none if it is
-/// infinite.
+/// Returns the number nearest to this one times two to the exponent. If two are equally near, it is the one whose last
+/// bit is 0. Returns nothing if the number is infinite.
 fn rounded(is_negative: bool, number: u128, exponent: i64) -> Option<LongDouble> {
     let bits = i64::from(u128::BITS - number.leading_zeros());
     let drop = (bits - i64::from(BITS))
@@ -226,7 +228,7 @@ fn rounded(is_negative: bool, number: u128, exponent: i64) -> Option<LongDouble>
         mantissa >>= 1;
         exponent += 1;
     }
-    // What has fewer bits than a mantissa may still be written with a lower exponent.
+    // A number with fewer bits than a mantissa may still be written with a lower exponent.
     let unused = i64::from((mantissa as u64).leading_zeros());
     match mantissa {
         0 => Some(LongDouble::zero(is_negative)),
@@ -239,7 +241,7 @@ fn rounded(is_negative: bool, number: u128, exponent: i64) -> Option<LongDouble>
     }
 }
 
-/// The number without so many last bits, rounded to the nearest, of two to the even one.
+/// Returns the number without so many last bits, rounded to the nearest. If two are equally near, it is the even one.
 fn half_even(number: u128, drop: u32) -> u128 {
     if drop == 0 {
         return number;
@@ -252,7 +254,7 @@ fn half_even(number: u128, drop: u32) -> u128 {
     }
 }
 
-/// The digits of the mantissa below two to so much, with those behind the point.
+/// Returns the digits of the mantissa divided by two to `below`, with those behind the point.
 fn with_fraction(mantissa: u64, below: u64) -> Vec<u8> {
     let scale = 10_u128.pow(DECIMALS);
     let number = u128::from(mantissa) * scale;
@@ -265,7 +267,7 @@ fn with_fraction(mantissa: u64, below: u64) -> Vec<u8> {
     text.as_bytes().to_vec()
 }
 
-/// A whole number of any size, by its limbs from the least on.
+/// An integer of any size, as its limbs, the least significant first.
 #[derive(Clone, Debug, PartialEq, Eq)]
 struct Big(Vec<u64>);
 
@@ -274,7 +276,7 @@ impl Big {
         Big(vec![number])
     }
 
-    /// The number of these digits in this base.
+    /// Returns the number with these digits in this base.
     fn of(digits: &[u32], base: Radix) -> Big {
         let mut number = Big::new(0);
         let radix = u64::from(base.number());
@@ -287,7 +289,7 @@ impl Big {
         number
     }
 
-    /// Multiplies it, and adds to it.
+    /// Multiplies the number by the factor, and adds to it.
     fn multiply_add(&mut self, factor: u64, more: u64) {
         let mut carry = u128::from(more);
         for limb in &mut self.0 {
@@ -314,7 +316,7 @@ impl Big {
         top.map_or(0, |it| 64 * (it + 1) - self.0[it].leading_zeros() as usize)
     }
 
-    /// The number times two to so much.
+    /// Returns the number times two to the power of `left`.
     fn shifted(&self, left: usize) -> Big {
         let mut limbs = vec![0; left / 64];
         let (bits, mut carry) = (left % 64, 0);
@@ -346,7 +348,7 @@ impl Big {
             .unwrap_or(Ordering::Equal)
     }
 
-    /// Takes away one that is no greater.
+    /// Subtracts a number that isn't greater.
     fn subtract(&mut self, other: &Big) {
         let mut borrow = 0;
         for (at, limb) in self.0.iter_mut().enumerate() {
@@ -358,8 +360,8 @@ impl Big {
         }
     }
 
-    /// The quotient times two to the exponent, with more bits than a mantissa and an exponent of its own. Its last bit
-    /// is 1 if there is a rest.
+    /// Returns the quotient times two to the exponent, with more bits than a mantissa, and its own exponent. If there
+    /// is a remainder, the last bit is 1.
     fn over(self, divisor: Big, exponent: i64) -> (u128, i64) {
         let wanted = BITS as usize + 2;
         let (bits, below) = (self.bits(), divisor.bits());

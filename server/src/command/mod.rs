@@ -1,4 +1,4 @@
-//! The commands that clients send, and what each does.
+//! The commands that clients send, and their execution.
 mod byte_set;
 mod cross_protocol;
 mod cursors;

@@ -5,13 +5,13 @@ use crate::resp::{parse, Arguments, Command, Unparsed};
 pub struct Reader<'a> {
     input: &'a [u8],
     at: usize,
-    /// How many bytes the command behind that has, where it was read, so that this is done once; else 0.
+    /// The length in bytes of the command behind that, if it was read, so that it is read only once; otherwise 0.
     length: usize,
     arguments: &'a mut Arguments,
 }
 
 impl<'a> Reader<'a> {
-    /// One at the front of the input, whose arguments are kept there.
+    /// Makes a reader at the front of the input. The commands' arguments are kept in `arguments`.
     pub fn new(input: &'a [u8], arguments: &'a mut Arguments) -> Reader<'a> {
         let (at, length) = (0, 0);
         Reader {
@@ -22,7 +22,7 @@ impl<'a> Reader<'a> {
         }
     }
 
-    /// The next command, or why there is none.
+    /// Returns the next command, or why there is none.
     #[inline]
     pub fn peek(&mut self) -> Result<Command<'_>, Unparsed> {
         let rest = &self.input[self.at..];
@@ -32,13 +32,13 @@ impl<'a> Reader<'a> {
         Ok(self.arguments.command(rest))
     }
 
-    /// Goes behind the next command, where it was peeked at.
+    /// Advances behind the next command, if it was peeked at.
     #[inline]
     pub fn advance(&mut self) {
         self.at += std::mem::take(&mut self.length);
     }
 
-    /// How many bytes are done with.
+    /// Returns how many bytes are done with.
     pub fn at(&self) -> usize {
         self.at
     }

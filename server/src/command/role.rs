@@ -1,25 +1,25 @@
 use crate::safety::Safety;
 use durkenzo_control::links::Secret;
 
-/// What a client may do, by the password that it gave.
+/// A client's role, which depends on the password that it gave.
 #[derive(Clone, Copy, Debug, Default, PartialEq, Eq)]
 pub enum Role {
-    /// Everything but to change how shards stand, where that has a password of its own.
+    /// May do everything, except change shards if that has a password of its own.
     #[default]
     Default,
-    /// Everything.
+    /// May do everything.
     Control,
 }
 
 impl Role {
-    /// That of this name, if there is one.
+    /// Returns the role with this name, if there is one.
     pub fn named(name: &[u8]) -> Option<Role> {
         [Role::Default, Role::Control]
             .into_iter()
             .find(|it| it.name().as_bytes() == name)
     }
 
-    /// Its name, as AUTH takes it.
+    /// Returns its name, as AUTH takes it.
     pub fn name(self) -> &'static str {
         match self {
             Role::Default => "default",
@@ -27,7 +27,8 @@ impl Role {
         }
     }
 
-    /// Whether this is its password: any is where it needs none, but nobody has the control's role so.
+    /// Returns whether this is the role's password. If the role needs none, any password is; but nobody gets the
+    /// control's role that way.
     pub fn is_opened_by(self, password: &[u8], safety: &Safety) -> bool {
         let is_right = |it: &Secret| it.is(password);
         match self {
@@ -36,7 +37,7 @@ impl Role {
         }
     }
 
-    /// Whether it may change how shards stand: all may where there is no password for that.
+    /// Returns whether the role may change shards. All roles may if there is no password for that.
     pub fn may_control(self, safety: &Safety) -> bool {
         self == Role::Control || safety.control_password.is_none()
     }

@@ -15,15 +15,15 @@ use crate::resp::{Command, Replies};
 use crate::wait::{NotAdmitted, Wait};
 use std::ops::Bound;
 
-/// How often a thread yields to another one that has a shard, before its command waits.
+/// How often a thread yields to another thread that has a shard, before its command waits.
 const MOST_YIELDS: usize = 1_000;
 
-/// The most bytes of a count as it is written.
+/// The most bytes of a count, in decimal.
 const LONGEST_COUNT: usize = 20;
 
 type Keys = Vec<Box<[u8]>>;
 
-/// Does what goes over the keys of several shards, each under a permit of its own.
+/// Executes the commands that go over the keys of several shards, each under its own permit.
 #[derive(Debug)]
 pub struct Scanner<'a> {
     admission: &'a mut Admission,
@@ -32,7 +32,7 @@ pub struct Scanner<'a> {
 }
 
 impl<'a> Scanner<'a> {
-    /// One for a thread that is admitted so.
+    /// Makes the scanner of a thread with this admission.
     pub fn new(
         admission: &'a mut Admission,
         keyspace: &'a Keyspace,
@@ -46,7 +46,7 @@ impl<'a> Scanner<'a> {
     }
 
     /// SCAN: goes on from its cursor over all keys, shard after shard, for the connection with these cursors. A key
-    /// that holds something from the first call to the last is given once.
+    /// that exists from the first call to the last is given once.
     pub fn scan(
         &mut self,
         command: Command<'_>,
@@ -73,8 +73,8 @@ impl<'a> Scanner<'a> {
         Ok(())
     }
 
-    /// The first keys of the position's shard behind it, so many at most, and how many bytes were read for them: what
-    /// they hold is read with them.
+    /// Returns the first keys of the position's shard behind the position, at most so many, and how many bytes were
+    /// read for them, because their values are read with them.
     fn keys_from(&mut self, position: &Position, most: usize) -> Result<(Keys, usize), Unanswered> {
         let after = position.after.as_deref();
         let low = after.map_or(Bound::Unbounded, Bound::Excluded);
@@ -93,10 +93,10 @@ impl<'a> Scanner<'a> {
         Ok((keys?, bytes))
     }
 
-    /// KEYS: all keys that match, of each shard at a moment of its own.
+    /// KEYS: finds all keys that match, each shard's at a moment of its own.
     pub fn keys(&mut self, command: Command<'_>, replies: &mut Replies) -> Result<(), Unanswered> {
         let (mut found, shards) = (FoundKeys::new(command)?, self.keyspace.shards());
-        // It begins anew each time it waits: so it waits for all shards before it looks at the first one's keys.
+        // It begins anew each time it waits. So it waits for all shards before it looks at the first one's keys.
         for shard in 0..shards {
             self.patiently(shard, |_| ())?;
         }
@@ -110,7 +110,7 @@ impl<'a> Scanner<'a> {
         Ok(())
     }
 
-    /// FLUSHDB: has all keys hold nothing, shard after shard. While one waits, those before it stay done.
+    /// FLUSHDB: deletes all keys, shard after shard. If it waits for a shard, the shards before it stay empty.
     pub fn flush(
         &mut self,
         command: Command<'_>,
@@ -135,8 +135,8 @@ impl<'a> Scanner<'a> {
         Ok(())
     }
 
-    /// SCANRANGE: the first pairs with keys from LOW on and below HIGH, in the order of their keys over all shards. An
-    /// empty bound is none.
+    /// SCANRANGE: returns the first pairs with keys from LOW on and below HIGH, in the order of their keys over all
+    /// shards. An empty bound is no bound.
     pub fn scan_range(
         &mut self,
         command: Command<'_>,
@@ -167,8 +167,8 @@ impl<'a> Scanner<'a> {
         Ok(pairs?)
     }
 
-    /// Has the closure work on the body, again while another thread has it: what goes over many shards would hardly
-    /// find all of them free.
+    /// Runs the closure on the body, and tries again while another thread has it, because a command over many shards
+    /// would hardly find all of them free.
     fn patiently<R>(
         &mut self,
         shard: u16,
@@ -184,7 +184,7 @@ impl<'a> Scanner<'a> {
     }
 }
 
-/// What is taken of each pair of the range; or why none is told.
+/// Returns what the closure takes from each pair of the range; or why it can't.
 fn scanned<T>(
     body: &mut BoxedBody,
     range: RangeRef<'_>,
@@ -199,7 +199,7 @@ fn scanned<T>(
     found
 }
 
-/// How many bytes a pair has at most.
+/// Returns the most bytes that a pair takes.
 fn size((key, value): &PairRef<'_>) -> usize {
     match value {
         ValueRef::Text(text) => key.len() + text.len(),
@@ -207,7 +207,7 @@ fn size((key, value): &PairRef<'_>) -> usize {
     }
 }
 
-/// What is taken of each of these, unless there is no memory for it.
+/// Returns what the closure takes from each of these pairs, unless there is no memory for it.
 fn taken_of<T>(
     pairs: &[PairRef<'_>],
     taken: impl FnMut(&PairRef<'_>) -> T,
@@ -216,8 +216,8 @@ fn taken_of<T>(
     Ok(pairs.iter().map(taken).collect())
 }
 
-/// Where a scan goes on behind these keys, of which there would be more if there were fewer than were asked for; none
-/// behind the last shard.
+/// Returns the position at which a scan goes on behind these keys. If there are fewer keys than were asked for, the
+/// shard has no more, and it goes on with the next shard. There is none behind the last shard.
 pub(super) fn following(
     position: Position,
     keys: &[Box<[u8]>],

@@ -9,16 +9,16 @@ use crate::safety::Safety;
 use std::net::{Ipv4Addr, SocketAddr};
 use std::time::Duration;
 
-/// How many bytes a client that gave no password yet may have in a command, and unsent of answers before no further
-/// command of it is done.
+/// The most bytes that a client without a password may have in a command, and the most unsent bytes of its answers
+/// before no further command is done.
 pub const MOST_OF_A_STRANGER: usize = 16 << 10;
 
-/// What a connection's earlier commands mean for its later ones.
+/// The state of a connection that its earlier commands leave for its later ones.
 #[derive(Debug)]
 pub struct Session {
-    /// A number that no other connection has.
+    /// A number that only this connection has.
     pub id: u64,
-    /// Where the client connects from.
+    /// The address from which the client connects.
     pub address: SocketAddr,
     /// The name that the client gave itself.
     pub name: Option<Box<[u8]>>,
@@ -26,22 +26,22 @@ pub struct Session {
     pub is_known: bool,
     /// The client's role.
     pub role: Role,
-    /// Whether it may change how shards stand.
+    /// Whether the client may change shards.
     pub may_control: bool,
-    /// How many wrong passwords it gave.
+    /// How many wrong passwords the client gave.
     wrong_guesses: u32,
-    /// Whether its next password is looked at, whatever was given before.
+    /// Whether its next password is checked, whatever was given before.
     pub may_guess: bool,
     /// The transaction that was begun.
     pub(super) transaction: Option<Box<MultiTransaction>>,
-    /// How far the next command has come, where it waits between its keys.
+    /// How far the next command has come, if it waits between its keys.
     pub(super) progress: KeysDone,
-    /// The cursors that it was given last, if it was given any; most connections aren't, and have no room for them.
+    /// The cursors that it was given last. Most connections are given none, and have no room for them.
     cursors: Option<OwnCursors>,
 }
 
 impl Session {
-    /// That of a new connection from there, where these passwords are asked for.
+    /// Makes the session of a new connection from this address, to a server with these passwords.
     pub fn of(id: u64, address: SocketAddr, safety: &Safety) -> Session {
         Session {
             address,
@@ -50,7 +50,7 @@ impl Session {
         }
     }
 
-    /// The same as when its connection was new, but for the wrong passwords that it gave.
+    /// Returns a session as when the connection was new, except for the wrong passwords that it gave.
     pub fn renewed(&self, safety: &Safety) -> Session {
         Session {
             wrong_guesses: self.wrong_guesses,
@@ -58,7 +58,7 @@ impl Session {
         }
     }
 
-    /// That of a connection that may do all, where it is known.
+    /// Makes the session of a connection that may do everything once it is known.
     pub fn new(id: u64, is_known: bool) -> Session {
         Session {
             id,
@@ -75,7 +75,7 @@ impl Session {
         }
     }
 
-    /// How many bytes may be unsent before no further command is done, where it is so many of one that is known.
+    /// Returns how many bytes may be unsent before no further command is done. A known client may have `of_known`.
     #[inline]
     pub fn most_unsent(&self, of_known: usize) -> usize {
         match self.is_known {
@@ -84,7 +84,7 @@ impl Session {
         }
     }
 
-    /// For how long its next password isn't looked at.
+    /// Returns for how long its next password isn't checked.
     pub(super) fn wait_of_guess(&self, guesses: &Guesses) -> Duration {
         let origin = ClientOrigin::from(self.address.ip());
         guesses.wait(origin, self.wrong_guesses)
@@ -96,13 +96,13 @@ impl Session {
         guesses.note_wrong(self.address.ip().into());
     }
 
-    /// The cursors that it was given last.
+    /// Returns the cursors that it was given last.
     pub(super) fn cursors(&mut self) -> &OwnCursors {
         self.cursors.get_or_insert_default()
     }
 
-    /// Answers a command that is refused; a transaction executes nothing then, but for where it is begun
-    /// twice.
+    /// Answers a command that is refused. An open transaction then executes nothing, unless the refused command is a
+    /// second MULTI.
     pub(super) fn refuse(&mut self, fault: Fault, replies: &mut Replies) {
         if matches!(fault, Fault::ExecArity | Fault::ExecMaxMemory) {
             self.transaction = None;
@@ -114,7 +114,7 @@ impl Session {
         fault.answer(replies);
     }
 
-    /// Queues a command of the transaction that was begun, with keys of this shard, and answers it.
+    /// Queues a command of the open transaction, with keys of this shard, and answers it.
     pub(super) fn queue(
         &mut self,
         command: Command<'_>,

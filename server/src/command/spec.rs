@@ -17,13 +17,13 @@ pub enum Keys {
     First,
     /// All.
     All,
-    /// Each second one, from the first on, with a value behind it.
+    /// Every second one, from the first on, each followed by a value.
     Pairs,
 }
 
 impl Keys {
-    /// Returns the place of the first key, that of the last one, from -1 for the last argument, and how many arguments
-    /// apart they are, as Redis tells them.
+    /// Returns the place of the first key, the place of the last one (counted from -1 for the last argument), and the
+    /// step between them, as Redis tells them.
     pub fn places(self) -> (i64, i64, i64) {
         match self {
             Keys::None => (0, 0, 0),
@@ -33,7 +33,7 @@ impl Keys {
         }
     }
 
-    /// Returns how many arguments a key has for itself: with a value behind it two.
+    /// Returns how many arguments belong to a key: two if a value follows it.
     pub fn step(self) -> usize {
         match self {
             Keys::None | Keys::First | Keys::All => 1,
@@ -69,7 +69,7 @@ pub enum KeyShards {
 }
 
 impl KeyShards {
-    /// Returns the shard of all keys, if there are any; refused if they are of several.
+    /// Returns the shard of all keys, if there are any. Refuses keys of several shards.
     pub fn one(self) -> Result<Option<u16>, Fault> {
         match self {
             KeyShards::None => Ok(None),
@@ -79,26 +79,26 @@ impl KeyShards {
     }
 }
 
-/// What a command does.
+/// The operation of a command.
 #[derive(Clone, Copy, Debug)]
 pub enum Word {
-    /// Something with keys of one shard, by this function.
+    /// Reads or writes keys of one shard, with this function.
     Data(Execute),
-    /// What needs no shard.
+    /// Answers without a shard.
     Talk(TalkWord),
     /// Begins a transaction.
     Multi,
-    /// Executes it.
+    /// Executes the transaction.
     Exec,
-    /// Forgets it.
+    /// Discards the transaction.
     Discard,
     /// Goes over all keys.
     Scan,
-    /// Gives pairs of a range of keys.
+    /// Returns pairs of a range of keys.
     ScanRange,
-    /// Gives all keys that match.
+    /// Returns all keys that match.
     Keys,
-    /// Has all keys hold nothing.
+    /// Deletes all keys.
     Flush,
     /// Asks the control, or a server.
     Control,
@@ -124,30 +124,30 @@ pub enum TalkWord {
     Time,
 }
 
-/// What a command does to what keys hold.
+/// A command's effect on the values of keys.
 #[derive(Clone, Copy, Debug, PartialEq, Eq)]
 pub enum Effect {
-    /// It changes nothing.
+    /// It changes no value.
     Reads,
-    /// It changes it, and has it take no more memory.
+    /// It changes values, but they take no more memory.
     Frees,
-    /// It changes it, and may have it take more memory: by Redis' word it is `denyoom`.
+    /// It changes values, which may take more memory. Redis calls this `denyoom`.
     Grows,
 }
 
-/// What a command over a store needs memory for.
+/// The memory that a command needs over a store.
 #[derive(Clone, Copy, Debug, PartialEq, Eq, PartialOrd, Ord)]
 pub enum Need {
-    /// For its own bytes: it deletes, and reads nothing.
+    /// Memory for its own bytes: it deletes, and reads nothing.
     Bytes,
-    /// For what it reads, too.
+    /// Also memory for the texts that it reads.
     Texts,
-    /// For what its shard may hold more, too.
+    /// Also memory for the growth of its shard.
     Growth,
 }
 
 impl Effect {
-    /// Whether it changes what keys hold.
+    /// Returns whether the command changes values of keys.
     pub fn writes(self) -> bool {
         match self {
             Effect::Reads => false,
@@ -155,7 +155,7 @@ impl Effect {
         }
     }
 
-    /// Redis' flags of a command with keys.
+    /// Returns Redis' flags of a command with keys.
     pub fn flags(self) -> &'static [&'static str] {
         match self {
             Effect::Reads => &["readonly"],
@@ -165,59 +165,59 @@ impl Effect {
     }
 }
 
-/// How large a command's answer may be, if it isn't an error.
+/// The possible size of a command's answer, unless it is an error.
 #[derive(Clone, Copy, Debug, PartialEq, Eq)]
 pub enum AnswerSize {
     /// A number or a few words.
     Short,
     /// As large as a value.
     Value,
-    /// As large as a value if the command has this option, and else short.
+    /// As large as a value if the command has this option; otherwise short.
     ValueWith(&'static str),
     /// As large as the values of all its keys.
     Values,
-    /// As large as what it repeats, or as there is to tell.
+    /// As large as the words that it repeats, or as the list that it tells.
     Any,
 }
 
 /// Whether a transaction may have a command.
 #[derive(Clone, Copy, Debug, PartialEq, Eq)]
 pub enum InMulti {
-    /// It may not: as in Redis it ends the connection or the transaction, or it goes over several shards.
+    /// It may not, because it ends the connection or the transaction as in Redis, or goes over several shards.
     Never,
-    /// It may, if data lies in memory only.
+    /// It may in memory mode only.
     InMemory,
     /// It may.
     Always,
 }
 
-/// How a command is written, what it does, and how it is answered: a row of the table of commands.
+/// A row of the table of commands: a command's form, operation and answer.
 #[derive(Debug)]
 pub struct Spec {
     /// Its name, in small letters.
     pub name: &'static str,
-    /// How many arguments it takes, the name among them; at least so many if it is below 0.
+    /// The number of its arguments, including the name. If it is negative, the command takes at least so many.
     pub arity: i64,
     /// Which of them are keys.
     pub keys: Keys,
-    /// What it does to what keys hold.
+    /// Its effect on the values of keys.
     pub effect: Effect,
-    /// Whether it never reads what its keys hold, so that they need no memory however many they are.
+    /// Whether it never reads the values of its keys. Then they need no memory, however many they are.
     pub is_blind: bool,
     /// How large its answer may be.
     pub answer: AnswerSize,
-    /// How it is done with keys of several shards, if it is.
+    /// How it is done if its keys are of several shards, if that is possible.
     pub split: Option<Split>,
     /// Whether a transaction may have it.
     pub queued: InMulti,
-    /// What it does.
+    /// Its operation.
     pub word: Word,
     /// The first version of the table that has it.
     pub since: u16,
 }
 
 impl Spec {
-    /// The row of a command with keys, which it has this function do.
+    /// Makes the row of a command with keys, which this function does.
     pub(super) const fn data(
         name: &'static str,
         arity: i64,
@@ -235,7 +235,7 @@ impl Spec {
         }
     }
 
-    /// The row of a command that needs no shard.
+    /// Makes the row of a command that needs no shard.
     pub(super) const fn talk(
         name: &'static str,
         arity: i64,
@@ -250,7 +250,7 @@ impl Spec {
         }
     }
 
-    /// The row of any other command.
+    /// Makes the row of any other command.
     pub(super) const fn other(name: &'static str, arity: i64, word: Word) -> Spec {
         Spec {
             name,
@@ -266,12 +266,12 @@ impl Spec {
         }
     }
 
-    /// The row of one that has this effect on keys that it doesn't name.
+    /// Returns the row, with this effect on keys that the command doesn't name.
     pub(super) const fn effect(self, effect: Effect) -> Spec {
         Spec { effect, ..self }
     }
 
-    /// The row of one that never reads what its keys hold.
+    /// Returns the row, for a command that never reads the values of its keys.
     pub(super) const fn blind(self) -> Spec {
         Spec {
             is_blind: true,
@@ -279,7 +279,7 @@ impl Spec {
         }
     }
 
-    /// The row of one that is done so with keys of several shards.
+    /// Returns the row, for a command that is split like this if its keys are of several shards.
     pub(super) const fn split(self, split: Split) -> Spec {
         Spec {
             split: Some(split),
@@ -287,14 +287,14 @@ impl Spec {
         }
     }
 
-    /// The row of one that this version of the table added.
+    /// Returns the row, for a command that this version of the table added.
     pub(super) const fn since(self, since: u16) -> Spec {
         Spec { since, ..self }
     }
 }
 
 impl Spec {
-    /// That of the command; refused where there is none, or it takes another number of arguments.
+    /// Returns the row of the command. Refuses an unknown command, and one with another number of arguments.
     pub fn of(command: Command<'_>) -> Result<&'static Spec, Fault> {
         let spec = Spec::queued(command)?;
         match spec.lacks_value(command) {
@@ -303,7 +303,8 @@ impl Spec {
         }
     }
 
-    /// The same where it may be queued: that a key has no value is told when it is executed.
+    /// Returns the row of a command that may be queued. A missing value of a key isn't refused until the command is
+    /// executed.
     #[inline(always)]
     pub fn queued(command: Command<'_>) -> Result<&'static Spec, Fault> {
         let spec = Spec::named(command.get(0)).ok_or_else(|| Fault::unknown_command(command))?;
@@ -319,32 +320,32 @@ impl Spec {
         }
     }
 
-    /// Whether the last key of the command has no value, where it takes keys with their values.
+    /// Returns whether the last key of the command lacks its value, if keys have values.
     #[inline]
     pub fn lacks_value(&self, command: Command<'_>) -> bool {
         self.keys == Keys::Pairs && command.len() % 2 == 0
     }
 
-    /// Whether it executes a transaction.
+    /// Returns whether it executes a transaction.
     pub fn is_exec(&self) -> bool {
         matches!(self.word, Word::Exec)
     }
 
-    /// Whether it asks the control, or a server.
+    /// Returns whether it asks the control, or a server.
     pub fn is_control(&self) -> bool {
         matches!(self.word, Word::Control)
     }
 
-    /// Whether it does something with keys of one shard.
+    /// Returns whether it reads or writes keys of one shard.
     pub fn is_data(&self) -> bool {
         matches!(self.word, Word::Data(_))
     }
 
-    /// Does the command of this row, whose keys are all of the shard with this body, and answers it.
+    /// Does the command of this row, whose keys are all in the shard of this body, and answers it.
     ///
     /// # Errors
     ///
-    /// If the command is refused: what it has answered by then is to be taken back.
+    /// If the command is refused. The caller must take back the answer so far.
     #[inline]
     pub fn execute(
         &self,
@@ -366,7 +367,7 @@ impl Spec {
         }
     }
 
-    /// Refuses a command that may have data take more memory, where too much is in use.
+    /// Refuses a command whose data may take more memory, if too much is in use.
     #[inline]
     pub fn check_memory(&self) -> Result<(), Fault> {
         match self.effect == Effect::Grows && CEILING.is_passed() {
@@ -375,7 +376,7 @@ impl Spec {
         }
     }
 
-    /// Refuses a command whose subcommand isn't there, or takes another number of arguments.
+    /// Refuses a command whose subcommand doesn't exist, or takes another number of arguments.
     pub fn check_subcommand(&self, command: Command<'_>) -> Result<(), Fault> {
         match self.word {
             Word::Talk(word) => Subcommands::of(word).map_or(Ok(()), |it| it.check(command)),
@@ -391,7 +392,7 @@ impl Spec {
         }
     }
 
-    /// Returns the shards of the command's keys; refused if one of them is no key.
+    /// Returns the shards of the command's keys. Refuses a key that is too long, or empty.
     #[inline]
     pub fn shards(&self, command: Command<'_>, keyspace: &Keyspace) -> Result<KeyShards, BadKey> {
         match self.keys {
@@ -401,7 +402,7 @@ impl Spec {
         }
     }
 
-    /// How many texts the command reads at most, or 1.
+    /// Returns the most texts that the command reads, at least 1.
     pub fn texts(&self, command: Command<'_>) -> usize {
         match self.is_blind {
             true => 1,
@@ -409,7 +410,7 @@ impl Spec {
         }
     }
 
-    /// Returns what it needs memory for over a store.
+    /// Returns the memory that it needs over a store.
     pub fn need(&self) -> Need {
         match self.effect {
             Effect::Grows => Need::Growth,
@@ -418,7 +419,7 @@ impl Spec {
         }
     }
 
-    /// Whether a client that gave no password may send it.
+    /// Returns whether a client that gave no password may send it.
     #[inline]
     pub fn is_open(&self) -> bool {
         use TalkWord::*;
@@ -439,13 +440,13 @@ impl Spec {
         }
     }
 
-    /// Whether it may be a part of a transaction.
+    /// Returns whether it may be queued in a transaction.
     pub fn is_queued(&self) -> bool {
         self.queued != InMulti::Never
     }
 }
 
-/// Returns the shards of these keys; refused if one of them is no key.
+/// Returns the shards of these keys. Refuses a key that is too long, or empty.
 fn shards_of_all<'a>(
     keys: impl Iterator<Item = &'a [u8]>,
     keyspace: &Keyspace,
@@ -462,7 +463,7 @@ fn shards_of_all<'a>(
     Ok(shards)
 }
 
-/// The shard of the key, which has to be one.
+/// Returns the shard of the key, which must be a valid key.
 #[inline]
 pub fn shard_of(key: &[u8], keyspace: &Keyspace) -> Result<u16, BadKey> {
     match key.len() {

@@ -4,7 +4,7 @@ use super::Fault;
 use crate::body::ShardBody;
 use crate::resp::{number, Command, Replies};
 
-/// How a command is done whose keys are of several shards: each key by itself, by a command of its own.
+/// How a command with keys of several shards is split: into one command for each key.
 #[derive(Clone, Copy, Debug, PartialEq, Eq)]
 pub struct Split {
     /// The name of the command that does one key.
@@ -13,40 +13,40 @@ pub struct Split {
     pub joined: Combine,
 }
 
-/// How the answers for single keys become one.
+/// How the answers for single keys become one answer.
 #[derive(Clone, Copy, Debug, PartialEq, Eq)]
 pub enum Combine {
-    /// They are numbers, whose sum it is.
+    /// They are numbers, and the answer is their sum.
     Sum,
-    /// They are values, of which it has one for each key.
+    /// They are values, and the answer lists them, one for each key.
     Values,
-    /// They are `OK`, and so is it.
+    /// They are `OK`, and so is the answer.
     Ok,
 }
 
-/// How far a command has come that goes over several keys or shards, each by itself.
+/// How far a command has come that goes over several keys or shards one by one.
 #[derive(Clone, Copy, Debug, Default, PartialEq, Eq)]
 pub struct KeysDone {
     /// How many of them are done.
     pub done: usize,
-    /// The sum of what they were answered.
+    /// The sum of their answers.
     count: usize,
 }
 
 impl Split {
-    /// Each key is counted by this command.
+    /// Makes the split of a command that counts keys: this command counts one.
     pub(super) const fn count(part: &'static str) -> Split {
         let joined = Combine::Sum;
         Split { part, joined }
     }
 
-    /// Each key's value is told by this command.
+    /// Makes the split of a command that returns the keys' values: this command returns one.
     pub(super) const fn values(part: &'static str) -> Split {
         let joined = Combine::Values;
         Split { part, joined }
     }
 
-    /// Each key is written by this command.
+    /// Makes the split of a command that writes keys: this command writes one.
     pub(super) const fn ok(part: &'static str) -> Split {
         let joined = Combine::Ok;
         Split { part, joined }
@@ -68,11 +68,11 @@ pub struct SplitCommand<'a> {
 }
 
 impl<'a> SplitCommand<'a> {
-    /// Returns that of the command, whose keys are of several shards.
+    /// Makes the split command, whose keys are of several shards.
     ///
     /// # Errors
     ///
-    /// If all its keys have to be of one shard.
+    /// If all its keys must be of one shard.
     pub fn new(spec: &'static Spec, command: Command<'a>) -> Result<SplitCommand<'a>, Fault> {
         let split = spec.split.ok_or(Fault::CrossShard)?;
         Ok(SplitCommand {
@@ -83,7 +83,7 @@ impl<'a> SplitCommand<'a> {
         })
     }
 
-    /// Writes what stands before what any key comes to: refused if a value is too long.
+    /// Writes the beginning of the answer, before those of the keys. Refuses the command if a value is too long.
     pub fn begin(&self, replies: &mut Replies) -> Result<(), Fault> {
         match self.joined {
             Combine::Ok => data::check_values(self.spec.name, self.command),
@@ -95,13 +95,13 @@ impl<'a> SplitCommand<'a> {
         }
     }
 
-    /// Returns the key that comes next, unless all are done.
+    /// Returns the next key, unless all are done.
     pub fn next_key(&self, progress: KeysDone) -> Option<&'a [u8]> {
         let index = self.place(progress);
         (index < self.command.len()).then(|| self.command.get(index))
     }
 
-    /// Does the next key, whose value is known to be short enough.
+    /// Does the next key, whose value must be short enough.
     pub fn execute_next(
         &self,
         body: &mut dyn ShardBody,
@@ -109,7 +109,7 @@ impl<'a> SplitCommand<'a> {
         replies: &mut Replies,
     ) -> Result<(), Fault> {
         let (first, mark) = (self.place(*progress), replies.mark());
-        // What stands before the key is taken for the part's name, which no command looks at.
+        // The argument before the key stands in for the part's name, which no command reads.
         let part = self
             .command
             .within(first - 1, first + self.spec.keys.step());
@@ -126,7 +126,7 @@ impl<'a> SplitCommand<'a> {
         Ok(())
     }
 
-    /// Writes what stands behind all.
+    /// Writes the end of the answer.
     pub fn end(&self, progress: KeysDone, replies: &mut Replies) {
         match self.joined {
             Combine::Ok => replies.ok(),
@@ -135,12 +135,12 @@ impl<'a> SplitCommand<'a> {
         }
     }
 
-    /// Whether it wrote a key by then, so that nobody is told that nothing has changed.
+    /// Returns whether it has written a key, so that nobody is told that nothing has changed.
     pub fn has_written(&self, progress: KeysDone) -> bool {
         has_written(self.spec.effect, self.joined, progress)
     }
 
-    /// Returns what is kept of this while it waits. Values that it would answer are read anew.
+    /// Returns the progress to keep while the command waits. Values that it would answer are read anew.
     pub fn kept(&self, progress: KeysDone) -> KeysDone {
         match self.joined {
             Combine::Values => KeysDone::default(),
@@ -148,14 +148,14 @@ impl<'a> SplitCommand<'a> {
         }
     }
 
-    /// The place of the next key.
+    /// Returns the place of the next key.
     fn place(&self, progress: KeysDone) -> usize {
         1 + progress.done * self.spec.keys.step()
     }
 }
 
 impl Spec {
-    /// Returns what is told if the command of this row is refused once it has come so far; none if nothing has changed.
+    /// Returns the refusal of a command of this row that has come so far; or nothing if nothing has changed.
     pub fn in_part(&self, progress: KeysDone) -> Option<Fault> {
         let is_in_part = match self.word {
             Word::Flush => return (progress.done > 0).then_some(Fault::FlushedInPart),
@@ -183,7 +183,7 @@ fn has_written(effect: Effect, joined: Combine, progress: KeysDone) -> bool {
         }
 }
 
-/// The number that is answered, or 0.
+/// Returns the number in the answer, or 0.
 pub fn count_of(answer: &[u8]) -> usize {
     let digits = answer.strip_prefix(b":");
     let digits = digits.and_then(|it| it.strip_suffix(b"\r\n"));

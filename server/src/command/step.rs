@@ -9,20 +9,20 @@ use crate::resp::Command;
 /// The row of a command, and the shard of its keys.
 pub type Keyed = (&'static Spec, u16);
 
-/// What becomes of a command.
+/// The next step for a command.
 pub enum Step {
-    /// It is done with keys of one shard.
+    /// It is done on keys of one shard.
     Data(Keyed),
-    /// It is done with keys of several shards, each by itself.
+    /// It is done on keys of several shards, one by one.
     Each(&'static Spec),
     /// It is queued for EXEC, with keys of this shard.
     Queue(Option<u16>),
-    /// It is done otherwise.
+    /// It is done in another way.
     Other(&'static Spec),
 }
 
 impl Step {
-    /// That of the command; or why it is refused.
+    /// Returns the step of the command, or why it is refused.
     // When this is inlined, the compiler builds only the parts of the fault that the caller reads.
     #[inline(always)]
     pub fn of(session: &Session, command: Command<'_>, keyspace: &Keyspace) -> Result<Step, Fault> {
@@ -62,7 +62,8 @@ impl Step {
         })
     }
 
-    /// What the command does, if that is done with keys of one shard; none where it is refused, too.
+    /// Returns the command's row and shard if it is done on keys of one shard. Returns nothing otherwise, or if it is
+    /// refused.
     pub fn keyed(session: &Session, command: Command<'_>, keyspace: &Keyspace) -> Option<Keyed> {
         match Step::of(session, command, keyspace) {
             Ok(Step::Data(keyed)) => Some(keyed),
@@ -71,7 +72,8 @@ impl Step {
     }
 }
 
-/// Refuses what may have more memory be taken, if too much is in use. As in Redis that is all that is queued.
+/// Refuses a command that may take more memory, if too much is in use. As in Redis, that includes every command that is
+/// queued.
 #[inline]
 fn check_memory(session: &Session, spec: &Spec) -> Result<(), Fault> {
     match &session.transaction {

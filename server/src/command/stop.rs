@@ -3,16 +3,16 @@ use crate::resp::{Oversized, OwnedCommand};
 use crate::wait::Wait;
 use std::time::Duration;
 
-/// Why a connection's commands end here for now.
+/// Why the execution of a connection's commands stops for now.
 #[derive(Debug)]
 pub enum Stop {
-    /// There is no whole command in fewer than so many bytes of what is left.
+    /// The rest of the input has no whole command until it has at least so many bytes.
     Incomplete(usize),
-    /// The next command is too large, and is to be read to its end.
+    /// The next command is too large, and must be read to its end.
     Oversized(Oversized),
-    /// Much is to be sent first, or the last command took so long that others have their turn first.
+    /// Much must be sent first, or the last command took so long that others have their turn first.
     Full,
-    /// The connection is to end when all was sent.
+    /// The connection must end once everything is sent.
     End,
     /// The next command isn't looked at for so long.
     PutOff(Duration),

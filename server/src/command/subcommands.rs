@@ -7,18 +7,18 @@ use crate::resp::{Command, Replies};
 pub struct Subcommands {
     /// The command's name.
     name: &'static str,
-    /// What it does without one, if it does something.
+    /// Its operation without a subcommand, if there is one.
     alone: Option<&'static str>,
     all: &'static [Subcommand],
 }
 
-/// How a subcommand is written, and what it does.
+/// The form and the operation of a subcommand.
 #[derive(Debug)]
 struct Subcommand {
     word: &'static str,
-    /// How many arguments it takes, both names among them; at least so many where it is below 0.
+    /// The number of its arguments, including both names. If it is negative, it takes at least so many.
     arity: i64,
-    /// What follows its name.
+    /// The arguments behind its name.
     form: &'static str,
     does: &'static str,
 }
@@ -134,7 +134,7 @@ static CONFIG: Subcommands = Subcommands {
 };
 
 impl Subcommands {
-    /// Those of this command, if it has any.
+    /// Returns the subcommands of this command, if it has any.
     pub fn of(word: TalkWord) -> Option<&'static Subcommands> {
         match word {
             TalkWord::Acl => Some(&ACL),
@@ -154,7 +154,7 @@ impl Subcommands {
         }
     }
 
-    /// Refuses a command whose subcommand isn't there, or takes another number of arguments.
+    /// Refuses a command whose subcommand doesn't exist, or takes another number of arguments.
     pub fn check(&self, command: Command<'_>) -> Result<(), Fault> {
         if command.len() == 1 && self.alone.is_some() {
             return Ok(());
@@ -170,7 +170,7 @@ impl Subcommands {
         }
     }
 
-    /// Tells how each is written, and what it does, as Redis does.
+    /// Writes how each subcommand is used, and what it does, as Redis does.
     pub fn help(&self, replies: &mut Replies) {
         let title = "<subcommand> [<arg> [value] [opt] ...]. Subcommands are:";
         let mut lines = vec![format!("{} {title}", self.name)];

@@ -1,5 +1,6 @@
-//! All commands: a row says how each is written, what it does and how large its answer may be, and everything else that
-//! is decided by a command is read from its row. A new one takes its row here and its function, as those in `data`.
+//! The table of all commands. Its rows say how a command is written, what it does and how large its answer may be.
+//! Everything else that depends on the command is derived from its row. A new command takes a row here, and a function
+//! like those in `data`.
 use super::data;
 use super::spec::AnswerSize::{Any, Short, Value, ValueWith, Values};
 use super::spec::Effect::{Frees, Grows, Reads};
@@ -9,13 +10,13 @@ use super::spec::{Spec, TalkWord, Word};
 use super::split::Split;
 use crate::packed::packed;
 
-/// The version of the table of commands: whoever adds commands raises it, and gives it to them by [`Spec::since`], so
-/// that no process sends them to one that doesn't know them.
+/// The version of the table of commands. Whoever adds commands must raise it, and give it to them with [`Spec::since`],
+/// so that no process sends them to one that doesn't know them.
 pub const TABLE: u16 = 3;
-/// That of 0.1.0, of which its processes don't tell.
+/// The version of 0.1.0, whose processes don't tell it.
 pub const FIRST_TABLE: u16 = durkenzo_control::links::FIRST_TABLE;
 
-/// All commands, by their names.
+/// All commands, sorted by name.
 #[rustfmt::skip] // One row a line.
 pub static COMMANDS: [Spec; 45] = [
     Spec::talk("acl", -2, Any, InMemory, TalkWord::Acl),
@@ -65,18 +66,18 @@ pub static COMMANDS: [Spec; 45] = [
     Spec::data("unlink", -2, All, Frees, Short, data::delete).blind().split(Split::count("del")).since(2),
 ];
 
-/// How many places the commands' names are spread over, a power of two.
+/// The names of the commands are spread over this many places, a power of two.
 const PLACES: usize = 256;
 /// The most letters of a name.
 const MOST_LETTERS: usize = 16;
-/// The bit that a small letter has beside the capital, of eight letters.
+/// The bit by which a small letter differs from the capital, in each of eight letters.
 const SMALL: u64 = u64::from_le_bytes([0x20; 8]);
 
 /// The commands' names as numbers.
 static NUMBERS: [u128; COMMANDS.len()] = numbers();
-/// An odd number by which each command's name falls on a place of its own.
+/// An odd number by which each command's name falls on its own place.
 const SPREAD: u64 = spread();
-/// The command whose name falls on each place, or the first where none does.
+/// The command whose name falls on each place, or the first command if no name does.
 static AT_PLACES: [u8; PLACES] = at_places();
 
 const fn numbers() -> [u128; COMMANDS.len()] {
@@ -97,7 +98,7 @@ const fn spread() -> u64 {
     odd
 }
 
-/// Whether no two commands' names fall on one place by this number.
+/// Returns whether no two commands' names fall on the same place by this number.
 const fn is_spread_by(odd: u64) -> bool {
     let (mut is_taken, mut index) = ([false; PLACES], 0);
     while index < COMMANDS.len() {
@@ -121,14 +122,14 @@ const fn at_places() -> [u8; PLACES] {
     commands
 }
 
-/// The place on which the name of this number falls by the odd one.
+/// Returns the place on which the name with this number falls by the odd one.
 const fn place_of(number: u128, odd: u64) -> usize {
     let mixed = (number as u64 ^ (number >> 64) as u64).wrapping_mul(odd);
     (mixed >> (u64::BITS - PLACES.ilog2())) as usize
 }
 
-/// A name of at most `MOST_LETTERS` as a number, in which no letter's case counts and no byte of the name is 0, so that
-/// each name has its own.
+/// Returns a name of at most `MOST_LETTERS` as a number. Letters of both cases count as the same, and no byte of a name
+/// is 0, so different names have different numbers.
 const fn number_of(name: &[u8]) -> u128 {
     match name.split_first_chunk::<8>() {
         None => part_of(name) as u128,
@@ -136,7 +137,7 @@ const fn number_of(name: &[u8]) -> u128 {
     }
 }
 
-/// The same of at most eight letters.
+/// Does the same for at most eight letters.
 const fn part_of(letters: &[u8]) -> u64 {
     match letters.len() {
         0 => 0,
@@ -145,7 +146,7 @@ const fn part_of(letters: &[u8]) -> u64 {
 }
 
 impl Spec {
-    /// That of this name, in whatever case.
+    /// Returns the command with this name, in any case.
     #[inline]
     pub fn named(name: &[u8]) -> Option<&'static Spec> {
         if name.len() > MOST_LETTERS {
@@ -165,7 +166,7 @@ mod tests {
     fn the_tables_version_is_that_of_its_latest_commands() {
         let versions = COMMANDS.iter().map(|it| it.since);
         assert_eq!(versions.clone().max(), Some(TABLE));
-        // How many each version added, from the first.
+        // How many commands each version added, from the first on.
         let added = (FIRST_TABLE..=TABLE).map(|it| versions.clone().filter(|of| *of == it).count());
         assert_eq!(added.collect::<Vec<_>>(), [32, 9, 4]);
     }

@@ -17,7 +17,7 @@ use std::time::SystemTime;
 /// The version of Redis whose protocol and errors these are.
 pub const REDIS_VERSION: &str = "7.0.0";
 
-/// Answers the command, or says why not.
+/// Answers the command, or returns why it is refused.
 pub fn answer(
     word: TalkWord,
     command: Command<'_>,
@@ -38,7 +38,7 @@ pub fn answer(
         TalkWord::Select => select(command, replies)?,
         TalkWord::Time => time(SystemTime::now(), replies),
         TalkWord::DbSize => {
-            // Where they aren't counted, shards were asked before it came here.
+            // If keys aren't counted here, shards were asked before the command came here.
             replies.count(cluster.storage.all_keys().unwrap_or(0) as usize);
         }
         TalkWord::Acl => who_am_i(command, session, replies)?,
@@ -79,7 +79,7 @@ fn select(command: Command<'_>, replies: &mut Replies) -> Result<(), Fault> {
     Ok(())
 }
 
-/// The seconds since 1970, and the microseconds of the next one, as texts.
+/// Writes the seconds since 1970, and the microseconds since the last full second, as texts.
 fn time(now: SystemTime, replies: &mut Replies) {
     let since = now
         .duration_since(SystemTime::UNIX_EPOCH)
@@ -89,7 +89,7 @@ fn time(now: SystemTime, replies: &mut Replies) {
     replies.bulk(since.subsec_micros().to_string().as_bytes());
 }
 
-/// Whether the command gives a password.
+/// Returns whether the command gives a password.
 pub fn gives_password(word: TalkWord, command: Command<'_>) -> bool {
     match word {
         TalkWord::Auth => true,
@@ -109,7 +109,7 @@ pub fn gives_password(word: TalkWord, command: Command<'_>) -> bool {
     }
 }
 
-/// Lets the client in, where the user is a role and the password is that role's.
+/// Logs the client in, if the user is a role and the password is that role's.
 fn let_in(
     user: &[u8],
     password: &[u8],
@@ -117,11 +117,11 @@ fn let_in(
     cluster: &Cluster,
 ) -> Result<(), Fault> {
     let (safety, guesses) = (&cluster.configuration.safety, &cluster.guesses);
-    // A command by itself was put off for so long; within a transaction nothing is.
+    // Only a command outside of a transaction can be put off.
     if !std::mem::take(&mut session.may_guess) && !session.wait_of_guess(guesses).is_zero() {
         return Err(Fault::TooSoon);
     }
-    // Who was let in before stays so, and what it was.
+    // A client that was logged in before stays so, in its old role.
     let role = Role::named(user).filter(|it| it.is_opened_by(password, safety));
     let Some(role) = role else {
         session.note_wrong_guess(guesses);
@@ -192,7 +192,7 @@ fn hello(
     Ok(())
 }
 
-/// The version of the protocol that is written so.
+/// Returns the version of the protocol with this number.
 fn version(written: &[u8]) -> Result<Protocol, Fault> {
     match number::parse(written) {
         Some(2) => Ok(Protocol::Two),
@@ -250,7 +250,7 @@ fn client(command: Command<'_>, session: &mut Session, replies: &mut Replies) ->
     Ok(())
 }
 
-/// COMMAND: all commands, how many there are, or some of them.
+/// COMMAND: tells of all commands, how many there are, or some of them.
 fn describe(command: Command<'_>, replies: &mut Replies) -> Result<(), Fault> {
     match command.get(1).to_ascii_uppercase().as_slice() {
         b"" => {
@@ -280,7 +280,7 @@ fn describe(command: Command<'_>, replies: &mut Replies) -> Result<(), Fault> {
     Ok(())
 }
 
-/// As Redis describes a command: name, arity, flags, and the first, last and each further key.
+/// Describes a command as Redis does: name, arity, flags, and the first key, the last key and the step between keys.
 fn describe_one(spec: &Spec, replies: &mut Replies) {
     let flags = match spec.word {
         Word::Data(_) | Word::Scan | Word::ScanRange | Word::Keys | Word::Flush => {
@@ -299,7 +299,7 @@ fn describe_one(spec: &Spec, replies: &mut Replies) {
         .for_each(|it| replies.number(it));
 }
 
-/// CONFIG GET, of what clients and redis-benchmark look at.
+/// CONFIG GET, for the parameters that clients and redis-benchmark read.
 fn config(command: Command<'_>, cluster: &Cluster, replies: &mut Replies) -> Result<(), Fault> {
     if !command.is(1, "GET") {
         return Err(Fault::unknown_subcommand("CONFIG", command.get(1)));

@@ -9,10 +9,10 @@ use crate::cluster::Cluster;
 use crate::memory::{self, CEILING};
 use crate::resp::{Command, OwnedCommand, Replies, MAX_ARGUMENTS, MAX_COMMAND};
 
-/// The most bytes of an answer that is a value, its length among them.
+/// The most bytes of an answer that is a value, including its length.
 const MOST_OF_VALUE: usize = MAX_TEXT + 16;
 
-/// Commands that EXEC does at once, whose keys are of one shard.
+/// Commands that EXEC does at once. Their keys are all of one shard.
 #[derive(Debug, Default)]
 pub struct MultiTransaction {
     /// Its commands, with their rows.
@@ -20,7 +20,7 @@ pub struct MultiTransaction {
     shard: Option<u16>,
     size: usize,
     is_aborted: bool,
-    /// The most that one of its commands needs memory for.
+    /// The greatest need for memory among its commands.
     need: Option<Need>,
 }
 
@@ -43,18 +43,18 @@ impl MultiTransaction {
         Ok(())
     }
 
-    /// Has EXEC execute nothing, as a command was refused.
+    /// Has EXEC execute nothing, because a command was refused.
     pub fn abort(&mut self) {
         self.is_aborted = true;
         self.commands = Vec::new();
     }
 
-    /// Whether a command was refused.
+    /// Returns whether a command was refused.
     pub fn is_aborted(&self) -> bool {
         self.is_aborted
     }
 
-    /// Refuses EXEC, if it may have data take more memory and too much is in use.
+    /// Refuses EXEC if its data may take more memory and too much is in use.
     pub fn check_memory(&self) -> Result<(), Fault> {
         match self.need() == Need::Growth && !self.is_aborted && CEILING.is_passed() {
             true => Err(Fault::ExecMaxMemory),
@@ -62,50 +62,50 @@ impl MultiTransaction {
         }
     }
 
-    /// How many commands there are.
+    /// Returns how many commands there are.
     pub fn len(&self) -> u64 {
         self.commands.len() as u64
     }
 
-    /// Returns what they need memory for over a store.
+    /// Returns the memory that they need over a store.
     pub fn need(&self) -> Need {
         self.need.unwrap_or(Need::Texts)
     }
 
-    /// How many bytes their arguments have.
+    /// Returns how many bytes their arguments have in all.
     pub fn size(&self) -> usize {
         self.size
     }
 
-    /// All commands.
+    /// Returns all commands.
     pub fn commands(&self) -> impl Iterator<Item = &OwnedCommand> {
         self.commands.iter().map(|it| &it.1)
     }
 
-    /// The commands with keys, and their rows.
+    /// Returns the commands with keys, and their rows.
     pub fn data(&self) -> impl Iterator<Item = (&'static Spec, &OwnedCommand)> {
         let commands = self.commands.iter().map(|it| (it.0, &it.1));
         commands.filter(|it| it.0.is_data())
     }
 
-    /// How many arguments the commands with keys have, at most so many of which are keys.
+    /// Returns how many arguments the commands with keys have. No more than these can be keys.
     pub fn arguments(&self) -> usize {
         self.data().map(|it| it.1.command().len() - 1).sum()
     }
 
-    /// How many texts the answers to the commands with keys have at most.
+    /// Returns the most texts in the answers to the commands with keys.
     pub fn texts_told(&self) -> usize {
         let told = self.data().map(|(spec, it)| (spec, it.command()));
         let told = told.filter(|(spec, it)| ReplySize::of(spec, *it) != ReplySize::Short);
         told.map(|(spec, it)| spec.texts(it)).sum()
     }
 
-    /// The shard of all keys, if there are any.
+    /// Returns the shard of all keys, if there are any.
     pub fn shard(&self) -> Option<u16> {
         self.shard
     }
 
-    /// Does all commands, whose keys are of the shard with this body, and answers them in one reply.
+    /// Does all commands, whose keys are all in the shard of this body, and answers them in one reply.
     pub fn execute(
         &self,
         mut body: Option<&mut (dyn ShardBody + 'static)>,
@@ -131,7 +131,7 @@ impl MultiTransaction {
                     self.note_keys(word, body, cluster);
                     talk::answer(word, command, session, cluster, replies)
                 }
-                // None of these is queued.
+                // None of these can be queued.
                 (Word::Data(_), None)
                 | (
                     Word::Multi
@@ -160,7 +160,7 @@ impl MultiTransaction {
         }
     }
 
-    /// Notes how many keys there are by now, before a command that tells it.
+    /// Notes how many keys there are now, before a command that tells it.
     fn note_keys(
         &self,
         word: TalkWord,
@@ -179,14 +179,15 @@ impl MultiTransaction {
     }
 }
 
-/// How large an answer may be, by which it is decided whether a command is done where the whole reply is full.
+/// How large an answer may be. If the whole reply is full, this decides whether a command is still done.
 #[derive(Clone, Copy, PartialEq, Eq)]
 enum ReplySize {
-    /// It is always done, and answered truly: where it changes something nobody is told that it didn't.
+    /// It is always done, and answered truly: if it changes something, nobody must be told that it didn't.
     Short,
-    /// It changes something, and is answered by what was there: it is done where the largest value has room.
+    /// It changes something, and is answered with the old value. It is done only if there is room for the largest
+    /// value.
     OfValue,
-    /// It changes nothing, so its answer may be taken back.
+    /// It changes nothing, so its answer can be taken back.
     OfRead,
 }
 

@@ -2,16 +2,16 @@ use super::Fault;
 use crate::wait::{NotAdmitted, Wait};
 use std::time::Duration;
 
-/// Why a command has no answer of its own.
+/// Why a command has no answer yet.
 #[derive(Clone, Debug, PartialEq, Eq)]
 pub enum Unanswered {
     /// It is refused.
     Fault(Fault),
-    /// It waits, and is done anew later.
+    /// It waits, and is done again later.
     Wait(Wait),
-    /// It is looked at after so long.
+    /// It is looked at again after so long.
     PutOff(Duration),
-    /// It was answered, and took so long that others have their turn before the next one.
+    /// It was answered, but it took so long that others have their turn before the next command.
     Long,
     /// It was answered, and the connection ends.
     End,

@@ -3,32 +3,32 @@ use super::Fault;
 use crate::body::{MAX_KEY, MAX_PAIRS};
 use crate::resp::{number, Command, Replies};
 
-/// How many keys a SCAN looks at where nothing is said, as in Redis.
+/// How many keys a SCAN looks at by default, as in Redis.
 const USUAL_COUNT: i64 = 10;
-/// How many keys a SCAN looks at at most.
+/// The most keys that a SCAN looks at.
 const MOST_COUNT: i64 = 1_000;
 
-/// What SCAN is asked for.
+/// The arguments of SCAN.
 #[derive(Debug)]
 pub(super) struct WantedScan {
     pattern: Option<Pattern>,
     /// How many keys it looks at.
     pub(super) count: usize,
-    /// Whether keys of another type than Redis' strings are asked for, of which there are none.
+    /// Whether it asks for keys of another type than Redis' strings. There are none.
     is_none: bool,
 }
 
-/// What SCANRANGE is asked for.
+/// The arguments of SCANRANGE.
 pub(super) struct WantedRange<'a> {
     pub(super) low: &'a [u8],
-    /// None where there is no bound.
+    /// The upper bound, if there is one.
     pub(super) high: Option<&'a [u8]>,
-    /// How many pairs at most.
+    /// The most pairs that are wanted.
     pub(super) most: usize,
 }
 
 impl WantedScan {
-    /// What the command says; or why it isn't one.
+    /// Parses the arguments, or returns why they are refused.
     pub(super) fn of(command: Command<'_>) -> Result<WantedScan, Fault> {
         let (mut pattern, mut count, mut is_none) = (None, USUAL_COUNT, false);
         for index in (2..command.len()).step_by(2) {
@@ -57,14 +57,14 @@ impl WantedScan {
         })
     }
 
-    /// Whether a key that was found is given.
+    /// Returns whether a key that was found is in the answer.
     pub(super) fn takes(&self, key: &[u8]) -> bool {
         !self.is_none && self.pattern.as_ref().is_none_or(|it| it.is_match(key))
     }
 }
 
 impl<'a> WantedRange<'a> {
-    /// What the command says; or why it isn't one.
+    /// Parses the arguments, or returns why they are refused.
     pub(super) fn of(command: Command<'a>) -> Result<WantedRange<'a>, Fault> {
         let (low, high) = (command.get(1), command.get(2));
         if low.len().max(high.len()) > MAX_KEY {
@@ -77,7 +77,7 @@ impl<'a> WantedRange<'a> {
     }
 }
 
-/// Refuses a FLUSHDB with other words than those that say how soon its memory is given back, which is at once.
+/// Refuses a FLUSHDB with words other than those that say when memory is given back. Here it is given back at once.
 pub(super) fn check_flush(command: Command<'_>) -> Result<(), Fault> {
     let is_known = ["SYNC", "ASYNC"].iter().any(|it| command.is(1, it));
     match command.len() == 1 || command.len() == 2 && is_known {
@@ -86,7 +86,7 @@ pub(super) fn check_flush(command: Command<'_>) -> Result<(), Fault> {
     }
 }
 
-/// The cursor of a SCAN.
+/// Returns the cursor of a SCAN.
 pub(super) fn cursor_of(command: Command<'_>) -> Result<u64, Fault> {
     let cursor = std::str::from_utf8(command.get(1)).ok();
     cursor
@@ -94,7 +94,7 @@ pub(super) fn cursor_of(command: Command<'_>) -> Result<u64, Fault> {
         .ok_or(Fault::BadCursor)
 }
 
-/// Answers a SCAN by the keys that it gives, and the cursor behind them.
+/// Answers a SCAN with its keys and the cursor behind them.
 pub(super) fn answer(cursor: u64, keys: &[Box<[u8]>], replies: &mut Replies) {
     replies.array(2);
     replies.bulk(cursor.to_string().as_bytes());

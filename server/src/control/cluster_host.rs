@@ -15,7 +15,7 @@ pub struct ClusterHost {
 }
 
 impl ClusterHost {
-    /// The host of this cluster's control.
+    /// Makes the host of this cluster's control.
     ///
     /// # Errors
     ///
@@ -75,6 +75,10 @@ impl ControlHost for ClusterHost {
 
     fn settings_lines(&self) -> Vec<String> {
         self.cluster.settings_lines()
+    }
+
+    fn follows_settings(&self) -> bool {
+        true
     }
 
     fn route_lines(&self) -> Vec<String> {

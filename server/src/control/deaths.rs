@@ -1,5 +1,5 @@
-//! Leaders that die after each of their commands in turn, or whose store falters then: whoever leads ends what was
-//! under way.
+//! Tests in which the leader dies after each of its commands in turn, or in which its store fails for a while then. The
+//! next leader must finish the work that was under way.
 use super::{Asked, Campaigner, ClusterHost, Controller, StoreBackend, Words};
 use crate::cluster::Cluster;
 use crate::configuration::Configuration;
@@ -13,8 +13,8 @@ use durkenzo_control::control::{FIRST_WAIT, TURN};
 use durkenzo_control::links::{Admission, Identity, Terms};
 use durkenzo_driver::{keys, Acks, Addresses, Durable, DurableControl, Member, Own};
 use durkenzo_store::{
-    CompactError, Done, Embedded, LeaseError, LeaseId, ReadError, Reading, Store, Sync as SyncTime,
-    Transaction, Watch, Watcher, WriteError,
+    CompactError, Done, Embedded, LeaseError, LeaseId, Pair, ReadError, Reading, Store,
+    StoreCounts, Sync as SyncTime, Transaction, Watch, Watcher, WriteError,
 };
 use std::net::TcpListener;
 use std::sync::atomic::{AtomicBool, AtomicI64, Ordering};
@@ -25,28 +25,30 @@ use std::time::{Duration, Instant};
 
 const SERVERS: u16 = 3;
 const SHARDS: u16 = 6;
-/// Long enough that no process of a machine that is busy with all tests loses it; that of one that dies is ended.
+/// Long enough that no process loses its lease on a machine that is busy with all tests. If a process dies, its lease
+/// is ended.
 const LEASE: Duration = Duration::from_secs(120);
 const PATIENCE: Duration = Duration::from_secs(100);
-/// How long a shard's next step comes after the one before where a server is to fail between them.
+/// How long a shard's next step comes after the one before, if a server must fail between them.
 const PACE: Duration = Duration::from_secs(8);
-/// How long a command takes where others are to come before it is over.
+/// How long a command takes if others must come before it is over.
 const SLOW: Duration = Duration::from_millis(400);
-/// How long a store that falters isn't reached.
+/// How long a store that falters can't be reached.
 const OUT: Duration = Duration::from_millis(300);
 
-/// What comes after the last of so many commands.
+/// What happens after the last of so many commands.
 #[derive(Clone, Copy, PartialEq, Eq)]
 enum Then {
     /// The process dies.
     Dies,
-    /// The store isn't reached for a while; what became of the command is told, or isn't.
+    /// The store can't be reached for a while. The command's outcome is told, or isn't.
     Falters(bool),
-    /// The command isn't made, as the store is full for a while.
+    /// The command isn't made, because the store is full for a while.
     IsFull,
 }
 
-/// A process's way to the store, which ends after so many of its commands, or when it is killed. Each takes so long.
+/// A process's access to the store. It ends after so many commands of the process, or if the process is killed. Each
+/// command takes so long.
 struct Way {
     store: Arc<dyn Store>,
     pause: Mutex<Duration>,
@@ -68,13 +70,13 @@ impl Way {
         })
     }
 
-    /// Has this come once so many more commands were made.
+    /// Makes this happen once so many more commands were made.
     fn after(&self, commands: i64, then: Then) {
         *self.then.lock().unwrap() = then;
         self.commands.store(commands, Ordering::Release);
     }
 
-    /// Has each command take so long from now on.
+    /// Makes each command take so long from now on.
     fn slow_down(&self, pause: Duration) {
         *self.pause.lock().unwrap() = pause;
     }
@@ -233,10 +235,10 @@ impl Process {
             elsewhere,
             acks: Acks::AsRead,
         };
-        let (shards, tuning) = (configuration.rule.shards(), configuration.tuning());
-        let durable = Durable::open_one(way.clone(), shards, tuning, own, Box::new(|| {}));
+        let (shards, shard_options) = (configuration.rule.shards(), configuration.shard_options());
+        let durable = Durable::open_one(way.clone(), shards, shard_options, own, Box::new(|| {}));
         let durable = Arc::new(durable.unwrap());
-        let storage = Storage::Etcd(OnEtcd::new(durable.clone(), peers.clone()));
+        let storage = Storage::Etcd(OnEtcd::new(durable.clone(), peers.clone(), uncounted()));
         let cluster = Arc::new(Cluster::new(configuration.clone(), storage));
         let (control, asked) = mpsc::sync_channel(9);
         let begun = peers.begin(listener, &durable, &cluster, control.clone());
@@ -258,22 +260,22 @@ impl Process {
         self.peers.member().server()
     }
 
-    /// Has it be as one that was killed, whose lease has ended.
+    /// Makes it like a process that was killed and whose lease has ended.
     fn kill(&self) {
         self.way.is_dead.store(true, Ordering::Release);
         self.cluster.stop();
         let lease = self.peers.member().lease();
         self.peers.leave();
-        // Where it was killed before, it has ended.
+        // If it was killed before, the lease has ended already.
         let _ = lease.map(|it| self.way.store.revoke(it));
     }
 
-    /// Has it die once it has made so many more commands.
+    /// Makes it die once it has made so many more commands.
     fn dies_after(&self, commands: i64) {
         self.way.after(commands, Then::Dies);
     }
 
-    /// Asks its control, and gives where the answer comes.
+    /// Asks its control, and returns the receiver of the answer.
     fn ask(&self, words: &[&str]) -> Receiver<Vec<u8>> {
         ask(&self.control, words)
     }
@@ -299,11 +301,11 @@ impl Drop for Process {
     }
 }
 
-/// Asks a control, and gives where the answer comes.
+/// Asks a control, and returns the receiver of the answer.
 fn ask(control: &SyncSender<Asked>, words: &[&str]) -> Receiver<Vec<u8>> {
     let (tell, told) = mpsc::channel();
     let reply_to = ReplyAddress::process(move |answer| {
-        // Who dies isn't told.
+        // A process that dies isn't told.
         let _ = tell.send(answer);
     });
     let asked = Asked {
@@ -322,7 +324,7 @@ fn wait_until(what: &str, is_so: impl Fn() -> bool) {
     }
 }
 
-/// Three processes, of which the first leads, and whose servers have two shards each, or room for no more than these.
+/// Three processes. The first one leads. Their servers have two shards each, or have room for only these.
 struct Three {
     store: Arc<dyn Store>,
     configuration: Configuration,
@@ -371,11 +373,23 @@ impl Three {
         self.first.kill();
     }
 
-    /// That the control intends nothing more.
+    /// Checks that the control intends nothing more.
     fn nothing_is_intended(&self) {
-        wait_until("nothing is intended", || {
-            let lies = |prefix| !self.store.read_all(prefix).unwrap().pairs.is_empty();
-            !lies(keys::DRAINS) && !lies(keys::HOMES)
+        self.only_homes_are_intended(|_| false);
+    }
+
+    /// Checks that the control intends only to bring home the shards that the first process had when it died.
+    fn only_homes_of_the_first_are_intended(&self) {
+        self.only_homes_are_intended(|server| server == 1);
+    }
+
+    fn only_homes_are_intended(&self, may_be: impl Fn(u16) -> bool) {
+        // The value is a version, and then the server.
+        let home = |it: Pair| u16::from_be_bytes(it.value[1..].try_into().unwrap());
+        wait_until("nothing else is intended", || {
+            let lying = |prefix| self.store.read_all(prefix).unwrap().pairs;
+            lying(keys::DRAINS).is_empty()
+                && lying(keys::HOMES).into_iter().all(|it| may_be(home(it)))
         });
     }
 
@@ -383,7 +397,7 @@ impl Three {
         wait_until("shards stand so", || are_so(&self.second.stands()));
     }
 
-    /// That all is as it was at first.
+    /// Checks that everything is as it was at first.
     fn all_is_as_it_was(&self) {
         wait_until("all is as it was", || {
             let is_away = |it| self.second.durable.is_away(it);
@@ -392,20 +406,20 @@ impl Three {
     }
 }
 
-/// How shards stand at first.
+/// Returns the stands of the shards at first.
 fn owned() -> Vec<Stand> {
     (0..SHARDS)
         .map(|it| Stand::Serving(it % SERVERS + 1))
         .collect()
 }
 
-/// Whether the shards of server 3 are as they were at first, and others have owners.
+/// Returns whether the shards of server 3 stand as at first, and the other shards have owners.
 fn of_third(stands: &[Stand]) -> bool {
     let are_home = [2, 5].iter().all(|it| stands[*it] == Stand::Serving(3));
     are_home && stands.iter().all(|it| matches!(it, Stand::Serving(_)))
 }
 
-/// Has the leader die after each of so many commands, each time among other processes.
+/// Makes the leader die after each of so many commands, each time in a new cluster.
 fn at_each(commands: i64, dies: impl Fn(i64) + Sync) {
     thread::scope(|scope| {
         let dies = &dies;
@@ -417,7 +431,7 @@ fn at_each(commands: i64, dies: impl Fn(i64) + Sync) {
 
 #[test]
 fn a_reassignment_is_ended_by_the_next_leader() {
-    // Server 3 has failed, and its shards are paused and go elsewhere.
+    // Server 3 has failed. Its shards are paused, and go to other servers.
     at_each(5, |number| {
         let three = Three::begin(false);
         three.first.dies_after(number);
@@ -429,7 +443,7 @@ fn a_reassignment_is_ended_by_the_next_leader() {
 
 #[test]
 fn a_server_fails_though_shards_wait_for_owners() {
-    // The leader dies after it has given so many of six shards owners, of which its own is the first.
+    // The leader dies after it has given owners to so many of six shards. The first of these is its own.
     at_each(5, |number| {
         let store: Arc<dyn Store> = Arc::new(Embedded::in_memory());
         let configuration = Configuration {
@@ -471,7 +485,7 @@ fn shards_that_fit_nowhere_are_resumed_by_the_next_leader() {
 
 #[test]
 fn a_drain_for_a_restart_is_ended_by_the_next_leader() {
-    // It is asked for and approved, both shards take four steps, and the server is stopped.
+    // The restart is asked for and approved, both shards take four steps, and the server is stopped.
     at_each(11, |number| {
         let three = Three::begin(false);
         three.first.dies_after(number);
@@ -494,7 +508,7 @@ fn a_drain_for_a_restart_is_ended_by_the_next_leader() {
 
 #[test]
 fn shards_come_home_by_the_next_leader() {
-    // The server was drained and stopped by eleven commands; it is up again, and each of both shards takes four steps.
+    // The server was drained and stopped by eleven commands. It is up again, and both shards take four steps each.
     at_each(9, |number| {
         let three = Three::begin(false);
         three.first.dies_after(11 + number);
@@ -504,7 +518,7 @@ fn shards_come_home_by_the_next_leader() {
         let third = three.start(3);
         three.await_death();
         three.stands_become(of_third);
-        three.nothing_is_intended();
+        three.only_homes_of_the_first_are_intended();
         three.stands_become(|them| them.iter().all(|it| matches!(it, Stand::Serving(2 | 3))));
         drop(third);
     });
@@ -519,8 +533,70 @@ fn a_drain_is_ended_by_the_next_leader() {
         three.first.ask(&["SM", "DRAIN", "3"]);
         three.await_death();
         three.stands_become(|them| them.iter().all(|it| *it == Stand::Serving(2)));
-        three.nothing_is_intended();
+        three.only_homes_of_the_first_are_intended();
     });
+}
+
+#[test]
+fn a_spread_is_ended_by_the_next_leader() {
+    // Server 3 was drained, and gets two shards of server 1, which take four steps.
+    at_each(8, |number| {
+        let three = Three::begin(false);
+        let drained = three.first.ask(&["SM", "DRAIN", "3"]);
+        drained.recv_timeout(PATIENCE).unwrap();
+        three.first.dies_after(number);
+        three.first.ask(&["SM", "SPREAD"]);
+        three.await_death();
+        three.stands_become(|them| {
+            let has = |server| {
+                them.iter()
+                    .filter(|it| **it == Stand::Serving(server))
+                    .count()
+            };
+            (has(2), has(3)) == (3, 3)
+        });
+        three.only_homes_of_the_first_are_intended();
+    });
+}
+
+#[test]
+fn shards_of_a_server_that_failed_come_home() {
+    let three = Three::begin(false);
+    three.third.kill();
+    three.stands_become(|them| them.iter().all(|it| matches!(it, Stand::Serving(1 | 2))));
+    let third = three.start(3);
+    three.all_is_as_it_was();
+    three.nothing_is_intended();
+    drop(third);
+}
+
+#[test]
+fn shards_of_a_leader_that_died_come_home() {
+    let three = Three::begin(false);
+    three.first.kill();
+    three.stands_become(|them| them.iter().all(|it| matches!(it, Stand::Serving(2 | 3))));
+    let first = three.start(1);
+    three.all_is_as_it_was();
+    three.nothing_is_intended();
+    drop(first);
+}
+
+#[test]
+fn a_shard_that_somebody_moved_does_not_come_home() {
+    let three = Three::begin(false);
+    three.third.kill();
+    three.stands_become(|them| them.iter().all(|it| matches!(it, Stand::Serving(1 | 2))));
+    let other = match three.first.stand(2) {
+        Stand::Serving(1) => "2",
+        _ => "1",
+    };
+    let told = three.first.ask(&["SM", "MIGRATE", "2", other]);
+    assert_eq!(told.recv_timeout(PATIENCE).unwrap(), b"+OK\r\n");
+    let third = three.start(3);
+    three.stands_become(|them| them[5] == Stand::Serving(3));
+    three.nothing_is_intended();
+    assert!(matches!(three.second.stand(2), Stand::Serving(1 | 2)));
+    drop(third);
 }
 
 #[test]
@@ -535,7 +611,12 @@ fn who_drains_a_server_is_told_where_its_shards_went() {
     three.nothing_is_intended();
 }
 
-/// Three processes of these settings, of which the first leads.
+/// Returns counters that nothing adds to.
+fn uncounted() -> Arc<StoreCounts> {
+    Arc::new(StoreCounts::new(Instant::now()))
+}
+
+/// Makes three processes with these settings. The first one leads.
 fn three_of(configuration: Configuration) -> [Process; 3] {
     let store: Arc<dyn Store> = Arc::new(Embedded::in_memory());
     let start = |it| Process::begin(&store, it, &configuration);
@@ -548,7 +629,7 @@ fn three_of(configuration: Configuration) -> [Process; 3] {
 
 #[test]
 fn who_moves_a_shard_to_a_server_that_fails_is_told_so() {
-    // It has failed before the next step.
+    // The server has failed before the next step.
     let configuration = Configuration {
         servers: SERVERS,
         pace: PACE,
@@ -570,7 +651,7 @@ fn a_shard_that_somebody_has_stay_is_not_told_as_moved() {
         ..Configuration::new(Rule::Hash(SHARDS))
     };
     let [first, second, _third] = three_of(configuration);
-    // Each command takes longer than work goes on before others have their turn.
+    // Each command takes longer than the time after which others have their turn.
     first.way.slow_down(SLOW.max(2 * TURN));
     let told = |it: Receiver<Vec<u8>>| it.recv_timeout(PATIENCE).unwrap();
     let moved = first.ask(&["SM", "MIGRATE", "0", "3"]);
@@ -593,7 +674,7 @@ fn all_processes_are_not_restarted_at_once() {
 
 #[test]
 fn a_shard_that_somebody_moves_stays_there() {
-    // It left for a restart, and would come home else.
+    // The shard left for a restart, and would come home otherwise.
     let three = Three::begin(false);
     three.first.ask(&["SM", "RESTART", "3"]);
     wait_until("server 3 is stopped", || three.second.durable.is_away(3));
@@ -611,7 +692,7 @@ fn a_shard_that_somebody_moves_stays_there() {
 
 #[test]
 fn a_shard_that_somebody_moves_while_nobody_leads_stays_there() {
-    // It left for a restart, and then for a drain, and would come home else.
+    // The shard left for a restart, then for a drain, and would come home otherwise.
     let three = Three::begin(false);
     three.first.ask(&["SM", "RESTART", "3"]);
     wait_until("server 3 is stopped", || three.second.durable.is_away(3));
@@ -620,7 +701,7 @@ fn a_shard_that_somebody_moves_while_nobody_leads_stays_there() {
     assert!(drained.recv_timeout(PATIENCE).unwrap().starts_with(b"*"));
     three.first.kill();
     let moved = three.second.ask(&["SM", "MIGRATE", "5", "2"]);
-    // It lies there already; that it is to stay there is new.
+    // The shard is there already. New is that it must stay there.
     let told = moved.recv_timeout(PATIENCE).unwrap();
     assert!(told.starts_with(b"-REFUSED SameServer"));
     let third = three.start(3);
@@ -632,7 +713,8 @@ fn a_shard_that_somebody_moves_while_nobody_leads_stays_there() {
 
 #[test]
 fn a_restart_without_room_elsewhere_is_ended_by_the_next_leader() {
-    // It is asked for and approved, both shards pause, the server is stopped and is back, and both shards go on.
+    // The restart is asked for and approved, both shards pause, the server is stopped and is back, and both shards go
+    // on.
     at_each(8, |number| {
         let three = Three::begin(true);
         three.first.dies_after(number);
@@ -660,7 +742,7 @@ fn a_restart_without_room_elsewhere_is_ended_by_the_next_leader() {
 
 #[test]
 fn a_migration_is_ended_by_the_next_leader() {
-    // Of a shard of another server, and of one of the leader's own.
+    // One is a shard of another server, and one is the leader's own.
     for shard in ["0", "1"] {
         at_each(4, |number| {
             let three = Three::begin(false);
@@ -708,7 +790,7 @@ fn shards_are_served_again_one_after_another_and_the_leader_answers_meanwhile() 
     let left = || {
         let stands = second.stands();
         let paused = stands.iter().filter(|it| !is_serving(it)).count();
-        // Each is seen at a moment of its own.
+        // Each shard is seen at its own moment.
         assert!(paused <= 10, "{paused} are paused at once");
         let is_of_third = |it: &&Stand| matches!(it, Stand::Serving(3) | Stand::Paused(3));
         stands.iter().filter(is_of_third).count()
@@ -720,7 +802,7 @@ fn shards_are_served_again_one_after_another_and_the_leader_answers_meanwhile() 
     wait_until("all are served again", || left() == 0);
 }
 
-/// Has the store falter after each of so many commands of the leader, whether the last one's outcome is told or not.
+/// Makes the store falter after each of so many commands of the leader, with and without the last one's outcome.
 fn at_each_falter(commands: i64, goes_on: impl Fn(&Three) + Sync) {
     at_each(commands, |number| {
         for is_told in [false, true] {
@@ -758,7 +840,7 @@ fn a_leader_whose_store_falters_ends_a_drain() {
 
 #[test]
 fn a_leader_whose_store_falters_stops_the_server_of_a_restart() {
-    // Its own is the first of all, and its two shards take four steps each.
+    // The leader's own server is the first of all, and its two shards take four steps each.
     at_each_falter(11, |three| {
         three.first.ask(&["SM", "RESTART", "1"]);
         wait_until("server 1 is stopped", || three.second.durable.is_away(1));
@@ -766,7 +848,7 @@ fn a_leader_whose_store_falters_stops_the_server_of_a_restart() {
     });
 }
 
-/// A process that has all servers of a store, of which its control asks by this way.
+/// Makes a process that has all servers of a store, whose control accesses the store this way.
 fn alone() -> (Arc<Way>, Arc<Durable>, SyncSender<Asked>) {
     let store: Arc<dyn Store> = Arc::new(Embedded::in_memory());
     let way = Way::new(&store);
@@ -774,9 +856,10 @@ fn alone() -> (Arc<Way>, Arc<Durable>, SyncSender<Asked>) {
         servers: SERVERS,
         ..Configuration::new(Rule::Hash(SHARDS))
     };
-    let tuning = configuration.tuning();
-    let durable = Arc::new(Durable::open(way.clone(), SHARDS, tuning, Box::new(|| {})).unwrap());
-    let storage = Storage::Folder(InFolder::new(durable.clone(), SyncTime::No));
+    let shard_options = configuration.shard_options();
+    let durable =
+        Arc::new(Durable::open(way.clone(), SHARDS, shard_options, Box::new(|| {})).unwrap());
+    let storage = Storage::Folder(InFolder::new(durable.clone(), uncounted(), SyncTime::No));
     let line = settings::line(&configuration);
     let cluster = Arc::new(Cluster::new(configuration, storage));
     let control = DurableControl::lead(durable.clone(), &line).unwrap();
@@ -792,7 +875,8 @@ fn alone() -> (Arc<Way>, Arc<Durable>, SyncSender<Asked>) {
 
 #[test]
 fn a_restart_within_a_process_is_ended_once_the_store_has_room() {
-    // It is asked for and approved, both shards take four steps, it is stopped and back, and they come home.
+    // The restart is asked for and approved, both shards take four steps, the server is stopped and back, and they come
+    // home.
     for words in [&["SM", "RESTART"][..], &["SM", "RESTART", "1"]] {
         at_each(20, |number| {
             let (way, durable, control) = alone();
@@ -804,7 +888,7 @@ fn a_restart_within_a_process_is_ended_once_the_store_has_room() {
                 let owners = stands.map(|it| it.record().unwrap().stand);
                 !durable.is_away(1) && owners.eq(owned())
             });
-            // Until that one is over the next one is refused.
+            // Until that restart is over, the next one is refused.
             wait_until("it is restarted again", || {
                 let again = ask(&control, &["SM", "RESTART", "1"]).recv_timeout(PATIENCE);
                 again.unwrap().starts_with(b"+server 1 is back")

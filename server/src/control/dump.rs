@@ -12,23 +12,23 @@ use durkenzo_control::control::{Advance, ControlAnswer, FileWork};
 use std::sync::Arc;
 use std::time::{Duration, Instant};
 
-/// How long a shard that other threads have is tried again.
+/// How long it tries a shard again that other threads have.
 const PATIENCE: Duration = Duration::from_secs(10);
 
-/// Writes all shards into a file, one at each step.
+/// Writes all shards into a file, one shard at each step.
 pub(super) struct DumpTask {
     cluster: Arc<Cluster>,
     memory: Arc<InMemory>,
     observer: Observer,
     file: Option<DumpFile>,
     name: String,
-    /// The shard that comes next.
+    /// The next shard.
     shard: u16,
     end: Instant,
 }
 
 impl DumpTask {
-    /// Begins the file of this name.
+    /// Begins the file with this name.
     pub(super) fn new(
         cluster: Arc<Cluster>,
         memory: Arc<InMemory>,
@@ -48,7 +48,7 @@ impl DumpTask {
         })
     }
 
-    /// What the shard holds, and its generation once that was read.
+    /// Returns the shard's content, and its generation at the time of reading.
     fn told(&self, record: Record) -> Result<Result<(ShardHead, Vec<u8>), Refusal>, NotAdmitted> {
         let cluster = self.cluster.clone();
         let stats = Arc::new(Stats::new(cluster.configuration.servers));
@@ -57,7 +57,7 @@ impl DumpTask {
             Err(fault) => return Ok(Err(fault.into())),
         };
         admission.admit_permit(self.shard, |permit| {
-            // The permit's end is a step of the history too.
+            // The permit's end is a step of the history, too.
             let generation = self.memory.base(self.shard) + permit.generation() + 1;
             let (text, pairs) = shard_text(permit.as_mut()).map_err(|refusal| match refusal {
                 BodyRefusal::NoMemory => DumpFault::NoMemory.into(),
@@ -78,7 +78,7 @@ impl DumpTask {
 }
 
 impl FileWork for DumpTask {
-    /// Writes the next shard, and ends the file behind the last.
+    /// Writes the next shard. After the last shard, ends the file.
     fn advance(&mut self) -> Result<Advance, Refusal> {
         if self.shard == self.cluster.shards() {
             return self.finished();

@@ -10,12 +10,13 @@ use std::sync::mpsc::{channel, Receiver, TryRecvError};
 use std::sync::Arc;
 use std::time::Duration;
 
-/// How often it is looked whether the file was read.
+/// How often it checks whether the file was read.
 const PAUSE: Duration = Duration::from_millis(2);
-/// How often it is looked whether threads have noticed what they are to act upon.
+/// How often it checks whether threads have acted on a notice.
 const LOOK: Duration = Duration::from_micros(100);
 
-/// Has all shards hold and stand as in a file. Until that was read whole, and a board was opened so, nothing changes.
+/// Replaces the content and the stands of all shards by those of a file. Nothing changes until the whole file was read
+/// and a board was opened with it.
 pub(super) struct LoadTask {
     cluster: Arc<Cluster>,
     memory: Arc<InMemory>,
@@ -26,14 +27,14 @@ pub(super) struct LoadTask {
 enum LoadPhase {
     /// A thread reads.
     Reading(Receiver<Result<Loaded, DumpFault>>),
-    /// No thread is to have a pass of the earlier board.
+    /// It waits until no thread has a pass of the earlier board.
     Closing(Option<Opened>, Notice),
-    /// Each thread is to have passes of the new one.
+    /// It waits until each thread has passes of the new board.
     Opening(Notice, String),
 }
 
 impl LoadTask {
-    /// Begins to read the file of this name.
+    /// Begins to read the file with this name.
     pub(super) fn new(
         cluster: Arc<Cluster>,
         memory: Arc<InMemory>,
@@ -44,7 +45,7 @@ impl LoadTask {
         let read = move || {
             let configuration = &reads.configuration;
             let head = DumpHead::new(configuration.servers, &configuration.rule);
-            // Who asked may be gone.
+            // The asking task may be gone.
             let _ = sender.send(dump::read(&configuration.folder, &file, &head));
         };
         let thread = std::thread::Builder::new().name("load".to_owned());
@@ -58,7 +59,7 @@ impl LoadTask {
         })
     }
 
-    /// Opens a board as the file says.
+    /// Opens a board with the file's content.
     fn opened(&self, loaded: Result<Loaded, DumpFault>) -> Result<Opened, Refusal> {
         let opened = loaded.and_then(|it| self.memory.open(&it.heads, it.bodies));
         Ok(opened?)
@@ -116,7 +117,8 @@ impl FileWork for LoadTask {
     }
 }
 
-/// Has the board, on which all servers are up, take the place of the one before; returns what it holds.
+/// Puts the new board, on which all servers are up, in the place of the old one. Returns the new board's content in
+/// words.
 fn replaced(cluster: &Arc<Cluster>, memory: &InMemory, opened: Opened) -> Result<String, Refusal> {
     let keys = opened.keys();
     let before = Observer::new(cluster.clone())?.generations();

@@ -17,33 +17,33 @@ use std::sync::Arc;
 use std::thread;
 use std::time::{Duration, Instant};
 
-/// How long a change is tried again before other work has its turn, while another thread has the shard.
+/// How long a change is tried again, while another thread has the shard, before other work has its turn.
 const SPIN: Duration = Duration::from_micros(500);
 
-/// Data in memory: the proved planner says what comes next and judges commands, and the proved board makes them. The
-/// board has the last word, as it alone knows which thread has a shard.
+/// The control's backend for data in memory. The proved planner chooses the next command and judges commands, and the
+/// proved board makes them. The board has the last word, because only it knows which thread has a shard.
 pub struct MemoryBackend {
     cluster: Arc<Cluster>,
     memory: Arc<InMemory>,
     board: Control<BoxedBody>,
-    /// Which of the cluster's boards it is.
+    /// The version of the cluster's board.
     version: u64,
     observer: Observer,
     planner: Planner,
-    /// The states of servers, from server 1 on.
+    /// The states of the servers, from server 1 on.
     states: Vec<ServerState>,
-    /// The command that the planner allowed, and that the board hasn't made yet.
+    /// The command that the planner has allowed and the board hasn't made yet.
     judged: Option<ControlCommand>,
-    /// Whether the planner is to read all again.
+    /// Whether the planner must read everything again.
     is_behind: bool,
 }
 
 impl MemoryBackend {
-    /// Returns the backend of this cluster, whose data lies there, and whose servers are all up.
+    /// Makes the backend of this cluster, whose data lies in `memory`, and whose servers are all up.
     ///
     /// # Errors
     ///
-    /// If the planner takes no such settings, or there is no pass of the board.
+    /// If the planner refuses such settings, or there is no pass of the board.
     pub fn new(cluster: Arc<Cluster>, memory: Arc<InMemory>) -> Result<MemoryBackend, BoxError> {
         let planner = Planner::new(&settings::line(&cluster.configuration))?;
         Ok(MemoryBackend {
@@ -59,7 +59,7 @@ impl MemoryBackend {
         })
     }
 
-    /// Has the planner know how all stands, with nothing judged.
+    /// Tells the planner how all shards and servers stand, with no command judged.
     fn catch_up(&mut self) -> Result<(), Refused> {
         if self.version != self.memory.version() {
             self.renew();
@@ -78,8 +78,9 @@ impl MemoryBackend {
         Ok(())
     }
 
-    /// What comes next, as the planner answers. It counts changes since it last read all, and says to wait once these
-    /// are as many as generations: then it reads all again, and the board says whether generations are spent.
+    /// Returns the planner's next command. The planner counts changes since it last read everything. Once these are as
+    /// many as generations, it says to wait. Then it reads everything again, and the board says whether generations are
+    /// spent.
     fn next(
         &mut self,
         ask: impl Fn(&mut Planner) -> Result<Next, Refused>,
@@ -94,7 +95,7 @@ impl MemoryBackend {
         Ok(ask(&mut self.planner)?)
     }
 
-    /// Has the planner allow the command, or says why it doesn't.
+    /// Has the planner judge the command. If the planner refuses it, returns why.
     fn judge(&mut self, command: ControlCommand) -> Result<(), Refused> {
         if self.judged == Some(command) && self.version == self.memory.version() {
             return Ok(());
@@ -102,14 +103,14 @@ impl MemoryBackend {
         self.catch_up()?;
         match self.planner.judge(command) {
             Ok(()) => self.judged = Some(command),
-            // The board says so itself, with the record.
+            // The board says this itself, with the record.
             Err(Refused::Judged(CommandFault::ChangeSpent)) => {}
             Err(refused) => return Err(refused),
         }
         Ok(())
     }
 
-    /// Makes the change at the board, again for a short while if another thread has the shard.
+    /// Makes the change at the board. If another thread has the shard, tries again for a short while.
     fn change(&self, command: ControlCommand) -> Result<(), BackendFault> {
         let end = Instant::now() + SPIN;
         loop {
@@ -142,7 +143,7 @@ impl MemoryBackend {
         }
     }
 
-    /// Notes what the board made.
+    /// Notes the change that the board made.
     fn note(&mut self, command: ControlCommand) -> Result<(), Refused> {
         match self.judged.take() {
             Some(_) => self.planner.made()?,
@@ -154,7 +155,7 @@ impl MemoryBackend {
             ControlCommand::Stopped(server) => self.set_state(server, ServerState::Stopped),
             ControlCommand::Back(server) => self.set_state(server, ServerState::Up),
             ControlCommand::Fail(server) => self.set_state(server, ServerState::Failed),
-            // Who waits for the shard may go on.
+            // Commands that wait for the shard may go on.
             ControlCommand::Assign(..)
             | ControlCommand::AddShard(_)
             | ControlCommand::Resume(_)
@@ -194,7 +195,7 @@ impl Backend for MemoryBackend {
         match self.change(command) {
             Ok(()) => Ok(self.note(command)?),
             Err(fault) => {
-                // What it allowed, the planner allows still when the same command is tried again.
+                // The planner still allows the same command when it is tried again.
                 self.is_behind |= !fault.is_passing();
                 if self.is_behind {
                     self.judged = None;
@@ -280,7 +281,7 @@ fn stepped(made: Result<(), RestartFault>) -> Result<(), BackendFault> {
     Ok(made?)
 }
 
-/// The name of a file, which people write in letters.
+/// Returns the name of a file, which must be made of letters.
 fn file_named(name: &[u8]) -> Result<&str, DumpFault> {
     std::str::from_utf8(name).map_err(|_| DumpFault::BadName)
 }
@@ -324,10 +325,10 @@ mod tests {
         let prepare = ControlCommand::PrepareAddShard(0, 2);
         for _ in 0..2 {
             assert!(backend.command(prepare).is_err_and(|it| it.is_passing()));
-            // Nobody else makes what was refused.
+            // Nobody else makes the command that was refused.
             assert_eq!(backend.next_of_shard(0).unwrap(), Next::Nothing);
         }
-        // Another shard is changed meanwhile.
+        // Another shard changes meanwhile.
         let vacant = backend.next_of_drain(0).unwrap();
         assert_eq!(vacant, Next::Command(ControlCommand::Assign(1, 1)));
         backend.command(ControlCommand::Assign(1, 1)).unwrap();

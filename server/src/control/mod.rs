@@ -1,4 +1,4 @@
-//! The control of this server: `durkenzo_control`, with what it needs of a server for Redis clients round it.
+//! The control of this server: `durkenzo_control`, with the parts around it that a server for Redis clients needs.
 mod cluster_host;
 #[cfg(test)]
 mod deaths;
@@ -22,12 +22,12 @@ use crate::io::ReplyAddress;
 use crate::resp::{Command, OwnedCommand};
 use durkenzo_control::control;
 
-/// Returns whether every role may send this command of SM.
+/// Returns whether every role may send this SM command.
 pub fn is_of_all(command: Command<'_>) -> bool {
     control::is_of_all(command.get(1))
 }
 
-/// Returns the command as the control takes it.
+/// Returns the command in the form that the control takes.
 pub fn asked(command: Command<'_>, reply_to: ReplyAddress) -> Asked {
     Asked {
         words: Words::of(command.iter()),

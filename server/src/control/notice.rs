@@ -8,17 +8,17 @@ use std::time::{Duration, Instant};
 /// How long threads may take to give back the passes of a server.
 const PATIENCE: Duration = Duration::from_secs(10);
 
-/// Which states of servers each thread is to have acted upon.
+/// States of servers that each thread must have acted upon.
 #[derive(Clone, Copy, Debug)]
 pub(super) struct Notice {
-    /// The server that is concerned, if not all are.
+    /// The server whose state it is, unless it is about all.
     server: Option<u16>,
     version: u64,
     end: Instant,
 }
 
 impl Notice {
-    /// All threads are to act upon how this server stands now, and others.
+    /// Notes that all threads must act upon the present state of this server, and of others.
     pub(super) fn of_server(cluster: &Cluster, server: u16) -> Notice {
         Notice::of(Some(server), cluster.presence.version())
     }
@@ -32,21 +32,21 @@ impl Notice {
         }
     }
 
-    /// Has requests reach no server for now.
+    /// Stops requests from reaching any server for now.
     pub(super) fn of_closing(cluster: &Cluster) -> Notice {
         let version = cluster.presence.close();
         cluster.note_change();
         Notice::of(None, version)
     }
 
-    /// Has requests reach servers again.
+    /// Lets requests reach servers again.
     pub(super) fn of_opening(cluster: &Cluster) -> Notice {
         let version = cluster.presence.open();
         cluster.note_change();
         Notice::of(None, version)
     }
 
-    /// Returns whether each thread has acted upon it; refused if one hasn't for long.
+    /// Returns whether each thread has acted upon it. Fails if a thread hasn't for too long.
     pub(super) fn is_seen(&self, cluster: &Cluster) -> Result<bool, Refusal> {
         let mut inlets = cluster.inlets().iter();
         if inlets.all(|it| it.version() >= self.version) {
@@ -63,7 +63,7 @@ impl Notice {
     }
 }
 
-/// A wait until the cluster's threads have acted upon what they are told of.
+/// A wait until the cluster's threads have acted upon a notice.
 pub(super) struct NoticeWait {
     pub(super) cluster: Arc<Cluster>,
     pub(super) notice: Notice,

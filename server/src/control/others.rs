@@ -21,7 +21,7 @@ impl OtherControls for Peers {
     fn ask_to_be_back(&self, leader: u16, tell: Box<dyn FnOnce(bool) + Send>) {
         let reply_to = ReplyAddress::process(move |told| {
             tell(is_decided(&told));
-            // Whoever leads may have it up before it asks.
+            // The leader may have brought it up before it asks.
             if told.starts_with(b"-REFUSED AlreadyUp") {
                 return tracing::info!("this server is up");
             }

@@ -1,4 +1,4 @@
-//! Refusals of the control for what only this server has.
+//! Refusals of the control in cases that only this server has.
 use super::Refusal;
 use crate::command::name_of;
 use crate::dump::DumpFault;

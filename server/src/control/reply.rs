@@ -39,9 +39,9 @@ impl ReplyTo for io::ReplyAddress {
         io::ReplyAddress::give_back(*self);
     }
 
-    /// Its errors are counted here, where the client is.
+    /// Errors are counted here, because the client is here.
     fn pass_on(self: Box<Self>, answer: Vec<u8>) {
-        // What is no error may be long, and isn't copied.
+        // An answer that isn't an error may be long, so it isn't copied.
         if answer.starts_with(b"-") {
             let mut told = Replies::default();
             told.append_told(&answer);

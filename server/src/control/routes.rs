@@ -1,4 +1,4 @@
-//! What each process answers by itself, whoever leads.
+//! The commands that each process answers itself, whoever leads.
 use super::Refusal;
 use crate::cluster::Cluster;
 use crate::works::Peers;
@@ -10,7 +10,8 @@ use std::sync::mpsc::channel;
 use std::sync::Arc;
 use std::thread;
 
-/// For each shard its owner, and where clients reach that; before them the revision of the latest record among these.
+/// Returns the owner of each shard, and the address at which clients reach it; before them the revision of the latest
+/// of these records.
 pub(super) fn routes(cluster: &Cluster, peers: &Peers) -> Vec<String> {
     let (members, mut revision) = (peers.member().members(), Revision::NEVER);
     let mut lines = vec![String::new()];
@@ -26,12 +27,12 @@ pub(super) fn routes(cluster: &Cluster, peers: &Peers) -> Vec<String> {
     lines
 }
 
-/// Has a thread of its own make room, as that takes long.
+/// Makes room in a thread of its own, because that takes long.
 pub(super) fn compact(cluster: &Arc<Cluster>, reply_to: Box<dyn ReplyTo>) {
     let (cluster, (give, given)) = (cluster.clone(), channel::<Box<dyn ReplyTo>>());
     let told = |error: &dyn Display| Refusal::new("StoreDown", format!("{error}"), "try again");
     let compacting = move || {
-        // Who asked is given to a thread that there is: a refused one would take him along.
+        // The address is sent to the thread once it runs, because a thread that can't be started would take it along.
         if let Ok(reply_to) = given.recv() {
             let durable = cluster.storage.durable();
             let done = durable.map_or(Ok(()), |it| it.compact());
@@ -47,7 +48,7 @@ pub(super) fn compact(cluster: &Arc<Cluster>, reply_to: Box<dyn ReplyTo>) {
     };
     let thread = thread::Builder::new().name("compact".to_owned());
     match thread.spawn(compacting) {
-        // A thread that has no one to answer has panicked, and said so.
+        // A thread that has not answered has panicked, and said so.
         Ok(_) => drop(give.send(reply_to)),
         Err(error) => reply_to.send(Err(told(&error))),
     }

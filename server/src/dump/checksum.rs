@@ -1,10 +1,10 @@
-/// A sum of all bytes in their order, by which files that were cut or changed by chance are told from whole ones:
-/// FNV-1a of 64 bits.
+/// A checksum of all bytes in their order, which detects files that were cut or changed by chance. It is FNV-1a of 64
+/// bits.
 #[derive(Clone, Copy, Debug)]
 pub(super) struct DumpChecksum(u64);
 
 impl DumpChecksum {
-    /// That of no bytes.
+    /// Makes the checksum of no bytes.
     pub(super) fn new() -> DumpChecksum {
         DumpChecksum(0xcbf2_9ce4_8422_2325)
     }
@@ -16,7 +16,7 @@ impl DumpChecksum {
         });
     }
 
-    /// The sum.
+    /// Returns the sum.
     pub(super) fn sum(self) -> u64 {
         self.0
     }

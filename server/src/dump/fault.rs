@@ -3,31 +3,31 @@ use std::error::Error;
 use std::fmt;
 use std::io;
 
-/// Why a file isn't written or read; what the server has stays.
+/// Why a dump isn't written or read. The server's data stays as it is.
 #[derive(Debug)]
 pub enum DumpFault {
     /// The system refuses it.
     File(io::Error),
-    /// The name has a folder, or none of the letters that names have.
+    /// The name has a folder, or characters that aren't allowed in names.
     BadName,
     /// The file isn't a dump.
     Foreign,
-    /// Something of the name of a file that is to be written is there, and isn't a dump.
+    /// There is a file with the name of the dump to be written, and it isn't a dump.
     Taken,
     /// The file has another version.
     Version,
-    /// The file ends too early, has other bytes than were written, or a generation that no server comes to.
+    /// The file ends too early, has other bytes than were written, or has a generation that no server reaches.
     Torn,
-    /// The file is of other servers or shards than this server has: how that one was begun.
+    /// The file has other servers or shards than this server. The fault says how to begin a server for it.
     Other(String),
-    /// This shard can't stand so.
+    /// This shard can't have that stand.
     Stand(u16, ChangeFault),
     /// Memory was refused.
     NoMemory,
 }
 
 impl DumpFault {
-    /// The name.
+    /// Returns the name.
     pub fn name(&self) -> &'static str {
         match self {
             DumpFault::File(_) => "BadFile",
@@ -42,7 +42,7 @@ impl DumpFault {
         }
     }
 
-    /// What to do.
+    /// Returns the advice.
     pub fn advice(&self) -> &'static str {
         match self {
             DumpFault::File(_) => "--folder names the folder of such files",

@@ -3,23 +3,23 @@ use crate::keyspace::Rule;
 use durkenzo::{Record, Stand};
 use serde::{Deserialize, Serialize};
 
-/// The greatest generation that a dump may tell: so many steps follow it as no server ever makes, and none overflows.
+/// The greatest generation in a dump. More steps can follow it than any server ever makes, without overflow.
 pub(super) const MAX_GENERATION: u64 = 1 << 62;
 
-/// Of what a dump is.
+/// The servers and shards of a dump.
 #[derive(Clone, Debug, PartialEq, Eq, Serialize, Deserialize)]
 #[serde(deny_unknown_fields)]
 pub struct DumpHead {
-    /// Servers 1 to this one.
+    /// The number of servers, which are numbered from 1 on.
     pub servers: u16,
     /// How many shards there are.
     pub shards: u16,
-    /// The bounds at which ranges begin, by their bytes; none where keys go by hash.
+    /// The bounds at which ranges begin, as bytes; nothing if keys go to shards by hash.
     pub bounds: Option<Vec<Vec<u8>>>,
 }
 
 impl DumpHead {
-    /// That of so many servers, and shards by this rule.
+    /// Makes the head of so many servers, and of shards with this rule.
     pub fn new(servers: u16, rule: &Rule) -> DumpHead {
         DumpHead {
             servers,
@@ -31,8 +31,8 @@ impl DumpHead {
         }
     }
 
-    /// Refused where a server that is as this one tells can't take the other's shards: it has fewer servers, or gives
-    /// keys to other shards.
+    /// Checks that a server with this head can take the other one's shards. It can't if it has fewer servers, or
+    /// assigns keys to other shards.
     pub fn takes(&self, other: &DumpHead) -> Result<(), DumpFault> {
         if other.servers <= self.servers
             && (other.shards, &other.bounds) == (self.shards, &self.bounds)
@@ -51,21 +51,21 @@ impl DumpHead {
     }
 }
 
-/// How a shard stood.
+/// The stand of a shard in a dump.
 #[derive(Clone, Copy, Debug, PartialEq, Eq)]
 pub struct ShardHead {
     /// Its number.
     pub shard: u16,
-    /// Who executed it.
+    /// The servers that executed it.
     pub stand: Stand,
     /// How many steps its history had.
     pub generation: u64,
-    /// How many keys held something.
+    /// How many keys it had.
     pub pairs: u64,
 }
 
 impl ShardHead {
-    /// That of a shard whose admission ended with this generation.
+    /// Makes the head of a shard whose admission ended with this generation.
     pub fn new(shard: u16, record: Record, generation: u64, pairs: u64) -> ShardHead {
         ShardHead {
             shard,
@@ -75,7 +75,7 @@ impl ShardHead {
         }
     }
 
-    /// Its line.
+    /// Returns its line.
     pub(super) fn line(&self) -> String {
         let (name, owner, other) = match self.stand {
             Stand::Vacant => ("Vacant", 0, 0),
@@ -89,7 +89,8 @@ impl ShardHead {
         format!("shard {shard} {name} {owner} {other} {generation} {pairs}\n")
     }
 
-    /// That of the line's words behind the first, where these are such words and the generation isn't too great.
+    /// Parses the line's words behind the first. Returns nothing if they are malformed, or if the generation is too
+    /// great.
     pub(super) fn of(words: &[&str]) -> Option<ShardHead> {
         let [shard, name, owner, other, generation, pairs] = words else {
             return None;

@@ -9,20 +9,20 @@ use std::io::{BufRead, BufReader, Read};
 use std::os::unix::fs::OpenOptionsExt;
 use std::path::Path;
 
-/// The most bytes of a line that isn't the second.
+/// The most bytes of a line other than the second.
 const MAX_LINE: u64 = 256;
 /// The most bytes of the second line: 4,096 bounds of 255 bytes, each as digits.
 const MAX_HEAD: u64 = 8 << 20;
 
-/// What a dump holds.
+/// The content of a dump.
 pub struct Loaded {
-    /// How each shard stood.
+    /// The stand of each shard.
     pub heads: Vec<ShardHead>,
-    /// What each shard holds.
+    /// The content of each shard.
     pub bodies: Vec<BoxedBody>,
 }
 
-/// Reads the whole file of this name in the folder, for a server with this head.
+/// Reads the whole file with this name in the folder, for a server with this head.
 pub fn read(folder: &Path, name: &str, head: &DumpHead) -> Result<Loaded, DumpFault> {
     let file = opened(&path_of(folder, name)?)?;
     let mut dump = DumpInput {
@@ -49,12 +49,14 @@ pub fn read(folder: &Path, name: &str, head: &DumpHead) -> Result<Loaded, DumpFa
     Ok(loaded)
 }
 
-/// Opens the file there to be read. What isn't a file is refused: whoever opens a fifo would wait for who writes.
+/// Opens the file at this path for reading. Refuses everything that isn't a file, because opening a fifo would wait for
+/// a writer.
 pub(super) fn opened(path: &Path) -> Result<File, DumpFault> {
     let mut options = OpenOptions::new();
-    options
-        .read(true)
-        .custom_flags(OFlags::NONBLOCK.bits() as i32);
+    // rustix declares these bits as u32 or i32, depending on how it calls the system.
+    #[allow(clippy::unnecessary_cast)]
+    let flags = OFlags::NONBLOCK.bits() as i32;
+    options.read(true).custom_flags(flags);
     let file = options.open(path).map_err(DumpFault::File)?;
     match file.metadata()?.is_file() {
         true => Ok(file),
@@ -70,14 +72,14 @@ fn shard_of(line: &str) -> Option<ShardHead> {
     }
 }
 
-/// A file that is read from its front.
+/// A file that is read from its beginning.
 struct DumpInput {
     file: BufReader<File>,
     sum: DumpChecksum,
 }
 
 impl DumpInput {
-    /// The next line without its end, of at most so many bytes.
+    /// Returns the next line without its end. It may have at most so many bytes.
     fn line(&mut self, most: u64) -> Result<String, DumpFault> {
         let mut line = Vec::new();
         (&mut self.file).take(most).read_until(b'\n', &mut line)?;
@@ -101,7 +103,7 @@ impl DumpInput {
         serde_json::from_str(&self.line(MAX_HEAD)?).map_err(|_| DumpFault::Torn)
     }
 
-    /// Takes so many bytes.
+    /// Reads so many bytes.
     fn bytes(&mut self, count: usize) -> Result<Vec<u8>, DumpFault> {
         let mut bytes = Vec::new();
         memory::reserve(&mut bytes, count).map_err(|_| DumpFault::NoMemory)?;
@@ -111,7 +113,7 @@ impl DumpInput {
         Ok(bytes)
     }
 
-    /// Has the body hold the next pair.
+    /// Reads the next pair into the body.
     fn pair(&mut self, body: &mut BoxedBody) -> Result<(), DumpFault> {
         let line = self.line(MAX_LINE)?;
         let words: Vec<_> = line.split(' ').collect();
@@ -138,7 +140,7 @@ impl DumpInput {
         }
     }
 
-    /// Whether the file ends here, as it says.
+    /// Checks that the file ends here, and that its last line says so.
     fn end(&mut self, loaded: &Loaded) -> Result<(), DumpFault> {
         let (sum, shards) = (self.sum.sum(), loaded.heads.len());
         let pairs: u64 = loaded.heads.iter().map(|it| it.pairs).sum();
@@ -167,12 +169,12 @@ mod tests {
         DumpHead::new(2, &Rule::Bounds(vec![Vec::new(), b"m".to_vec()]))
     }
 
-    /// A folder of its own, with a dump of two shards, and the bytes of that.
+    /// Makes a folder with a dump of two shards, and returns the bytes of the dump, too.
     fn dumped(name: &str) -> (std::path::PathBuf, Vec<u8>) {
         dumped_at(name, 9)
     }
 
-    /// The same, where both shards have this generation.
+    /// Does the same, with this generation for both shards.
     fn dumped_at(name: &str, generation: u64) -> (std::path::PathBuf, Vec<u8>) {
         let folder = std::env::temp_dir().join(format!("durkenzo-{name}-{}", std::process::id()));
         fs::create_dir_all(&folder).unwrap();

@@ -2,7 +2,7 @@ use super::{DumpFault, ShardHead};
 use crate::body::BoxedBody;
 use durkenzo::{ChangeFault, Control, Stand};
 
-/// Has each shard of a board on which nobody owns one stand as its head says.
+/// Gives each shard the stand that its head says, on a board on which no shard has an owner.
 pub fn restore(control: &Control<BoxedBody>, heads: &[ShardHead]) -> Result<(), DumpFault> {
     heads.iter().try_for_each(|head| {
         let made = restore_one(control, head.shard, head.stand);

@@ -10,11 +10,11 @@ use std::os::unix::fs::DirBuilderExt;
 use std::path::{Path, PathBuf};
 use std::sync::atomic::{AtomicU64, Ordering};
 
-/// Who may look into a folder that is made for dumps: its owner, as they hold all data.
+/// The mode of a folder that is made for dumps. Only its owner may look into it, because dumps hold all data.
 const FOLDER_MODE: u32 = 0o700;
 
-/// A dump that is written: under another name until it is whole, so that an earlier one of the name stays till then.
-/// Nothing but a dump is ever replaced.
+/// A dump while it is written. It has another name until it is whole, so that an earlier dump with the name stays until
+/// then. Only a dump is ever replaced.
 #[derive(Debug)]
 pub struct DumpFile {
     file: BufWriter<File>,
@@ -32,19 +32,19 @@ static BEGUN: AtomicU64 = AtomicU64::new(0);
 impl Drop for DumpFile {
     fn drop(&mut self) {
         if !self.is_whole {
-            // What is left of it is no dump; it may be gone.
+            // The rest is no dump. It may be gone already.
             let _ = fs::remove_file(&self.part);
         }
     }
 }
 
 impl DumpFile {
-    /// Begins the file of this name in the folder, which is made where there is none.
+    /// Begins the file with this name in the folder. If there is no folder, it is made.
     ///
     /// # Errors
     ///
-    /// Returns `BadName` of a name that isn't a file's, `Taken` where something of the name isn't a dump, and `File`
-    /// where the system refuses.
+    /// `BadName` if the name can't be a file's, `Taken` if there is something else than a dump with this name, and
+    /// `File` if the system refuses.
     pub fn create(folder: &Path, name: &str, head: &DumpHead) -> Result<DumpFile, DumpFault> {
         let path = path_of(folder, name)?;
         let mut folders = DirBuilder::new();
@@ -65,7 +65,7 @@ impl DumpFile {
         Ok(dump)
     }
 
-    /// Adds the next shard, whose line and pairs these are.
+    /// Adds the next shard, with this line and these pairs.
     pub fn add(&mut self, head: &super::ShardHead, pairs: &[u8]) -> Result<(), DumpFault> {
         self.write(head.line().as_bytes())?;
         self.write(pairs)?;
@@ -74,7 +74,7 @@ impl DumpFile {
         Ok(())
     }
 
-    /// Ends the file, which lies on the disk then; returns how many pairs it has.
+    /// Ends the file, which is on the disk then. Returns how many pairs it has.
     pub fn finish(mut self) -> Result<u64, DumpFault> {
         let (shards, pairs, sum) = (self.shards, self.pairs, self.sum.sum());
         writeln!(self.file, "end {shards} {pairs} {sum:016x}")?;
@@ -95,7 +95,8 @@ impl DumpFile {
     }
 }
 
-/// A new file for the dump of this name until that is whole, and where it lies. What an earlier process left stays.
+/// Makes the file that the dump has until it is whole. Returns the file and its path. A file that an earlier process
+/// left stays.
 fn part_of(folder: &Path, name: &str) -> Result<(File, PathBuf), DumpFault> {
     loop {
         let number = BEGUN.fetch_add(1, Ordering::Relaxed);
@@ -107,7 +108,7 @@ fn part_of(folder: &Path, name: &str) -> Result<(File, PathBuf), DumpFault> {
     }
 }
 
-/// Refuses a path at which something else than a dump is.
+/// Refuses a path at which there is something else than a dump.
 fn may_write(path: &Path) -> Result<(), DumpFault> {
     match fs::symlink_metadata(path) {
         Err(error) if error.kind() == ErrorKind::NotFound => Ok(()),
@@ -117,7 +118,7 @@ fn may_write(path: &Path) -> Result<(), DumpFault> {
     }
 }
 
-/// Whether the file begins as a dump of any version does.
+/// Returns whether the file begins as a dump of any version does.
 fn is_dump(path: &Path) -> Result<bool, DumpFault> {
     let mut head = Vec::new();
     let most = MAGIC.len() as u64;
@@ -125,7 +126,7 @@ fn is_dump(path: &Path) -> Result<bool, DumpFault> {
     Ok(head == MAGIC.as_bytes())
 }
 
-/// Where the file of this name lies.
+/// Returns the path of the file with this name.
 pub(super) fn path_of(folder: &Path, name: &str) -> Result<PathBuf, DumpFault> {
     let is_of_names = |it: char| it.is_ascii_alphanumeric() || matches!(it, '-' | '_' | '.');
     let is_name = name.chars().all(is_of_names) && !name.starts_with(['-', '.']);
@@ -135,7 +136,7 @@ pub(super) fn path_of(folder: &Path, name: &str) -> Result<PathBuf, DumpFault> {
     }
 }
 
-/// The pairs of a shard as they are written, and how many there are; or why they aren't told.
+/// Returns the pairs of a shard as a dump has them, and how many there are; or why they can't be read.
 pub fn shard_text(body: &mut dyn ShardBody) -> Result<(Vec<u8>, u64), BodyRefusal> {
     let (mut text, mut count, mut last, mut most) = (Vec::new(), 0, None::<Vec<u8>>, MAX_PAIRS);
     loop {
@@ -146,7 +147,7 @@ pub fn shard_text(body: &mut dyn ShardBody) -> Result<(Vec<u8>, u64), BodyRefusa
         };
         let pairs = match body.apply(BodyRequest::Scan(range)) {
             BodyReply::Pairs(pairs) => pairs,
-            // There may be memory for fewer.
+            // There may be memory for fewer pairs.
             BodyReply::Refused(BodyRefusal::NoMemory) if most > 1 => {
                 most /= 2;
                 continue;

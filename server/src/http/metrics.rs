@@ -2,12 +2,15 @@ use crate::cluster::Cluster;
 use crate::metric::{self, Metric, Source};
 use crate::snapshot::Snapshot;
 use crate::stats::LATENCY_BOUNDS;
+use durkenzo_store::{StoreCounts, TRANSACTION_BOUNDS};
 use prometheus::{Encoder, IntCounterVec, IntGaugeVec, Opts, Registry, TextEncoder};
 
 const LATENCY: &str =
     "Seconds from when commands were there to be read, or began to wait, until they were answered";
 
-/// How all stands, in the text format of Prometheus.
+const TRANSACTIONS: &str = "Seconds from when transactions went to the store until it answered";
+
+/// Returns the state of the server, in Prometheus' text format.
 pub(super) fn text(cluster: &Cluster, snapshot: &Snapshot) -> prometheus::Result<Vec<u8>> {
     let registry = Registry::new_custom(Some("durkenzo".into()), None)?;
     for metric in metric::all() {
@@ -19,10 +22,12 @@ pub(super) fn text(cluster: &Cluster, snapshot: &Snapshot) -> prometheus::Result
     let mut text = Vec::new();
     TextEncoder::new().encode(&registry.gather(), &mut text)?;
     text.extend_from_slice(latencies(cluster).as_bytes());
+    text.extend_from_slice(transactions(cluster).as_bytes());
     Ok(text)
 }
 
-/// Adds a number of the table, for each thread if threads have it. A number that this process hasn't isn't told.
+/// Adds a number of the table, for each thread if each thread has it. A number that this process doesn't have is left
+/// out.
 fn told(registry: &Registry, metric: &Metric, cluster: &Cluster) -> prometheus::Result<()> {
     let Source::Thread(of) = metric.source else {
         if let Some(value) = metric.value(cluster) {
@@ -37,31 +42,47 @@ fn told(registry: &Registry, metric: &Metric, cluster: &Cluster) -> prometheus::
     Ok(())
 }
 
-/// How long commands took, as a histogram.
+/// Returns how long commands took.
 fn latencies(cluster: &Cluster) -> String {
-    let name = "durkenzo_command_seconds";
-    let mut text = format!("# HELP {name} {LATENCY}\n# TYPE {name} histogram\n");
     let (mut counts, mut sum) = ([0; LATENCY_BOUNDS.len() + 1], 0);
     for inlet in cluster.inlets() {
         let latency = &inlet.stats().latency;
-        counts
-            .iter_mut()
-            .zip(latency.counts())
-            .for_each(|(all, it)| *all += it);
+        let both = counts.iter_mut().zip(latency.counts());
+        both.for_each(|(all, it)| *all += it);
         sum += latency.sum();
     }
-    let bounds = LATENCY_BOUNDS
-        .iter()
-        .map(|it| (*it as f64 / 1e6).to_string());
+    histogram(
+        "durkenzo_command_seconds",
+        LATENCY,
+        &LATENCY_BOUNDS,
+        &counts,
+        sum,
+    )
+}
+
+/// Returns how long transactions took, if there is a store.
+fn transactions(cluster: &Cluster) -> String {
+    let told = |it: &StoreCounts| {
+        let (name, times) = ("durkenzo_transaction_seconds", it.times());
+        histogram(name, TRANSACTIONS, &TRANSACTION_BOUNDS, &times, it.micros())
+    };
+    cluster.storage.counts().map(told).unwrap_or_default()
+}
+
+/// Writes times as a histogram: how many are at most each of these bounds of microseconds, and last how many are
+/// longer.
+fn histogram(name: &str, help: &str, bounds: &[u64], counts: &[u64], micros: u64) -> String {
+    let mut text = format!("# HELP {name} {help}\n# TYPE {name} histogram\n");
+    let bounds = bounds.iter().map(|it| (*it as f64 / 1e6).to_string());
     let mut total = 0;
     for (bound, count) in bounds.chain(["+Inf".to_owned()]).zip(counts) {
         total += count;
         text += &format!("{name}_bucket{{le=\"{bound}\"}} {total}\n");
     }
-    text + &format!("{name}_sum {}\n{name}_count {total}\n", sum as f64 / 1e6)
+    text + &format!("{name}_sum {}\n{name}_count {total}\n", micros as f64 / 1e6)
 }
 
-/// What is counted by a name.
+/// Adds the numbers that are counted by name.
 fn by_name(registry: &Registry, cluster: &Cluster) -> prometheus::Result<()> {
     let help = "Errors by which clients were answered";
     let errors = Family::new(registry, "errors_total", help, &["name"])?;
@@ -73,6 +94,13 @@ fn by_name(registry: &Registry, cluster: &Cluster) -> prometheus::Result<()> {
     let changes = Family::new(registry, "changes_total", "Changes of shards", &["change"])?;
     for (word, count) in cluster.changes_made.counts() {
         changes.set(&[word], count);
+    }
+    if let Some(counts) = cluster.storage.counts() {
+        let help = "Transactions of this process by what became of them";
+        let sent = Family::new(registry, "transactions_total", help, &["outcome"])?;
+        for (outcome, count) in counts.outcomes() {
+            sent.set(&[outcome], count);
+        }
     }
     Ok(())
 }
@@ -92,7 +120,7 @@ fn servers(registry: &Registry, cluster: &Cluster, snapshot: &Snapshot) -> prome
         owned.set(&[&server], row.shards as u64);
         let is_away = matches!(row.standing, "stopped" | "failed");
         up.set(&[&server], u64::from(!is_away));
-        // A family without a number isn't told.
+        // A family without a number is left out.
         let Some(count) = row.admissions else {
             continue;
         };
@@ -125,7 +153,7 @@ fn shards(registry: &Registry, snapshot: &Snapshot) -> prometheus::Result<()> {
     Ok(())
 }
 
-/// Numbers of one name: counters where that ends in `_total`, and else gauges.
+/// Numbers with the same name: counters if the name ends in `_total`, otherwise gauges.
 enum Family {
     Counters(IntCounterVec),
     Gauges(IntGaugeVec),
@@ -150,7 +178,7 @@ impl Family {
         }
     }
 
-    /// Sets the number with these labels; adds to it where it is a counter.
+    /// Sets the number with these labels. If it is a counter, adds to it.
     fn set(&self, labels: &[&str], value: u64) {
         match self {
             Family::Counters(counters) => counters.with_label_values(labels).inc_by(value),

@@ -1,5 +1,6 @@
-//! A page, `/metrics` and `/healthz`, on a thread of their own.
+//! A page, `/metrics`, `/live` and `/ready`, on a thread of their own.
 mod metrics;
+mod probes;
 mod site;
 mod undated;
 

@@ -1,4 +1,4 @@
-use super::{metrics, undated};
+use super::{metrics, probes, undated};
 use crate::cluster::Cluster;
 use crate::memory;
 use crate::observer::Observer;
@@ -27,24 +27,24 @@ const PAGE: &str = include_str!("page.html");
 const TEXT: &str = "text/plain; charset=utf-8";
 
 const NO_MEMORY: &str = "memory was refused: try again\n";
-/// How much memory there has to be to tell of all shards: so much, and so much for each.
+/// How much memory must be free to tell of all shards: this much, and more for each shard.
 const LEAST_ROOM: usize = 256 << 10;
 const ROOM_OF_SHARD: usize = 4 << 10;
 
-/// How long a connection lasts at most.
+/// The longest time that a connection lasts.
 const LASTS: Duration = Duration::from_secs(60);
-/// How long nothing is accepted after the system had no room for a connection.
+/// How long no connection is accepted after the system had no room for one.
 const PAUSE: Duration = Duration::from_millis(20);
 
-/// What a request is answered from.
+/// The source of all answers.
 struct Site {
     cluster: Arc<Cluster>,
 }
 
-/// Serves there for as long as it is polled.
+/// Serves at this address for as long as it is polled.
 pub async fn serve(cluster: Arc<Cluster>, listener: TcpListener) -> Result<(), BoxError> {
     let site = Arc::new(Site { cluster });
-    tracing::info!(address = %listener.local_addr()?, "page, /metrics and /healthz");
+    tracing::info!(address = %listener.local_addr()?, "page, /metrics, /live and /ready");
     let configuration = &site.cluster.configuration;
     let (most, tls) = (configuration.most_of_page, configuration.safety.tls.clone());
     let mut open = VecDeque::new();
@@ -53,7 +53,7 @@ pub async fn serve(cluster: Arc<Cluster>, listener: TcpListener) -> Result<(), B
             Ok((socket, _)) => {
                 make_room(&mut open, most);
                 let meeting = site.clone().meet(socket, tls.clone());
-                // One that takes longer is cut off.
+                // A connection that takes longer is cut off.
                 open.push_back(tokio::spawn(timeout(LASTS, meeting)));
             }
             Err(error) => {
@@ -64,8 +64,8 @@ pub async fn serve(cluster: Arc<Cluster>, listener: TcpListener) -> Result<(), B
     }
 }
 
-/// Cuts off the oldest connections until one more makes no more than these, so that nobody keeps others out by many
-/// that send nothing, or little: who asks at once is answered before so many others have come.
+/// Cuts off the oldest connections until there is room for one more. So nobody can keep others out with many
+/// connections that send little or nothing: a client that asks at once is answered before so many others have come.
 fn make_room<T>(open: &mut VecDeque<JoinHandle<T>>, most: usize) {
     open.retain(|it| !it.is_finished());
     while open.len() >= most {
@@ -74,7 +74,7 @@ fn make_room<T>(open: &mut VecDeque<JoinHandle<T>>, most: usize) {
     }
 }
 
-/// Does the handshake with who connected.
+/// Does the TLS handshake with a client.
 async fn met(tls: &ClientsTls, socket: TcpStream) -> io::Result<SslStream<TcpStream>> {
     let session = tls.page().map_err(io::Error::other)?;
     let mut stream = SslStream::new(session, socket).map_err(io::Error::other)?;
@@ -83,7 +83,7 @@ async fn met(tls: &ClientsTls, socket: TcpStream) -> io::Result<SslStream<TcpStr
 }
 
 impl Site {
-    /// Answers what comes over a connection, by TLS where clients are met so.
+    /// Answers the requests on a connection, with TLS if it is configured.
     async fn meet(self: Arc<Site>, socket: TcpStream, tls: Option<ClientsTls>) {
         let Some(tls) = tls else {
             return self.converse(socket).await;
@@ -101,13 +101,13 @@ impl Site {
         stream: impl AsyncRead + AsyncWrite + Unpin + Send + 'static,
     ) {
         if undated::is_now() {
-            // Whether it is taken or not, the connection ends.
+            // The connection ends, whether the answer was taken or not.
             let _ = undated::answer(stream).await;
             return;
         }
-        let answer = move |request| {
-            let answered = self.answer(&request);
-            async move { Ok::<_, Infallible>(answered) }
+        let answer = move |request: Request<Body>| {
+            let site = self.clone();
+            async move { Ok::<_, Infallible>(site.answer(&request).await) }
         };
         let service = service_fn(answer);
         if let Err(error) = Http::new().serve_connection(stream, service).await {
@@ -115,7 +115,7 @@ impl Site {
         }
     }
 
-    fn answer(&self, request: &Request<Body>) -> Response<Body> {
+    async fn answer(&self, request: &Request<Body>) -> Response<Body> {
         if !matches!(*request.method(), Method::GET | Method::HEAD) {
             return told(StatusCode::METHOD_NOT_ALLOWED, TEXT, "only GET\n");
         }
@@ -126,22 +126,24 @@ impl Site {
             }
             "/state.json" => self.state().unwrap_or_else(|it| failed(&*it)),
             "/metrics" => self.metrics().unwrap_or_else(|it| failed(&*it)),
-            "/healthz" => told(StatusCode::OK, TEXT, "ok\n"),
+            "/live" | "/healthz" => judged(probes::live(&self.cluster).await),
+            "/ready" => judged(probes::ready(&self.cluster)),
             _ => told(
                 StatusCode::NOT_FOUND,
                 TEXT,
-                "/, /metrics, /healthz, /state.json\n",
+                "/, /metrics, /live, /ready, /state.json\n",
             ),
         }
     }
 
-    /// Whether there is no memory to tell of all shards.
+    /// Returns whether there isn't enough memory to tell of all shards.
     fn has_no_room(&self) -> bool {
         let shards = usize::from(self.cluster.shards());
         memory::has_room(LEAST_ROOM + ROOM_OF_SHARD * shards).is_err()
     }
 
-    /// How all stands. Who looked is gone then, so that no earlier board is kept for it.
+    /// Returns the state of all servers and shards. The observer is dropped then, because otherwise it would keep an
+    /// earlier board alive.
     fn snapshot(&self) -> Result<Snapshot, PassFault> {
         Observer::new(self.cluster.clone()).map(|mut it| it.snapshot())
     }
@@ -154,6 +156,14 @@ impl Site {
     fn metrics(&self) -> Result<Response<Body>, Box<dyn Error>> {
         let text = metrics::text(&self.cluster, &self.snapshot()?)?;
         Ok(told(StatusCode::OK, "text/plain; version=0.0.4", text))
+    }
+}
+
+/// Answers that all is well, or what isn't.
+fn judged(probe: Result<(), String>) -> Response<Body> {
+    match probe {
+        Ok(()) => told(StatusCode::OK, TEXT, "ok\n"),
+        Err(faults) => told(StatusCode::SERVICE_UNAVAILABLE, TEXT, faults),
     }
 }
 

@@ -1,23 +1,23 @@
-//! What the page is where the clock is before 1970: HTTP's dates have no such time, and hyper panics at it.
+//! The page while the clock is before 1970. HTTP's dates have no such time, and hyper panics at it.
 use std::io;
 use std::sync::atomic::{AtomicBool, Ordering};
 use std::time::SystemTime;
 use tokio::io::{AsyncRead, AsyncReadExt, AsyncWrite, AsyncWriteExt};
 
-/// How much of a request is read.
+/// The most bytes of a request that are read.
 const ROOM: usize = 4 << 10;
 const HEALTHY: &str = "200 OK";
 const UNHEALTHY: &str = "503 Service Unavailable";
 
-/// Whether it was said.
+/// Whether it was logged.
 static IS_SAID: AtomicBool = AtomicBool::new(false);
 
-/// Whether the clock is before 1970, of which the log is told once.
+/// Returns whether the clock is before 1970. The first time, logs it.
 pub(super) fn is_now() -> bool {
     let is_before = SystemTime::now() < SystemTime::UNIX_EPOCH;
     if is_before && !IS_SAID.swap(true, Ordering::Relaxed) {
         tracing::warn!(
-            "this machine's clock is before 1970: /healthz alone is answered until it is set"
+            "this machine's clock is before 1970: only /live is answered until it is set"
         );
     }
     is_before
@@ -33,7 +33,8 @@ pub(super) async fn answer(mut stream: impl AsyncRead + AsyncWrite + Unpin) -> i
             count => request.extend_from_slice(&room[..count]),
         }
     }
-    let (status, told) = match request.starts_with(b"GET /healthz ") {
+    let is_live = |it: &[u8]| request.starts_with(it);
+    let (status, told) = match is_live(b"GET /live ") || is_live(b"GET /healthz ") {
         true => (HEALTHY, "ok\n"),
         false => (UNHEALTHY, "this machine's clock is before 1970\n"),
     };

@@ -9,17 +9,17 @@ use std::net::SocketAddr;
 use std::sync::Arc;
 use std::time::{Duration, Instant};
 
-/// How much memory there has to be for one more client, which has much less at first.
+/// How much memory must be free for one more client. At first a client needs much less.
 const ROOM_OF_CLIENT: usize = 128 << 10;
-/// What a client is told for which there isn't.
+/// The answer to a client for which there isn't enough memory.
 const NO_MEMORY: &[u8] = b"-OOM memory was refused for one more client: try again\r\n";
 
 const LISTENER: Token = Token(0);
-/// How long nothing is accepted after the system had no room for a connection.
+/// How long no connection is accepted after the system had no room for one.
 const PAUSE: Duration = Duration::from_millis(20);
-/// How long nothing is accepted while all threads have enough to look at.
+/// How long no connection is accepted while all threads have enough to look at.
 const BREATH: Duration = Duration::from_millis(1);
-/// How often it is said at most that connections aren't accepted.
+/// The least time between two log lines about connections that aren't accepted.
 const SILENCE: Duration = Duration::from_secs(10);
 
 /// Accepts connections, and gives them to the threads in turn.
@@ -33,12 +33,12 @@ pub struct Acceptor {
 }
 
 impl Acceptor {
-    /// Listens there; who connects waits until there is an acceptor.
+    /// Listens at this address. Clients that connect wait until there is an acceptor.
     pub fn bind(address: SocketAddr) -> io::Result<TcpListener> {
         TcpListener::bind(address)
     }
 
-    /// One of those who connect there.
+    /// Makes an acceptor of the clients that connect to this listener.
     pub fn new(cluster: Arc<Cluster>, mut listener: TcpListener) -> io::Result<Acceptor> {
         let poll = Poll::new()?;
         poll.registry()
@@ -55,17 +55,18 @@ impl Acceptor {
         })
     }
 
-    /// Where it listens.
+    /// Returns the address at which it listens.
     pub fn address(&self) -> io::Result<SocketAddr> {
         self.listener.local_addr()
     }
 
-    /// What wakes it when the cluster stops.
+    /// Returns the waker that wakes it when the cluster stops.
     pub fn waker(&self) -> Arc<Waker> {
         self.waker.clone()
     }
 
-    /// Accepts until the cluster stops, and then what the system holds, but no longer than for its grace.
+    /// Accepts connections until the cluster stops, and then those that the system holds, but no longer than the grace
+    /// period.
     pub fn run(mut self) {
         let mut events = Events::with_capacity(8);
         let (mut timeout, mut said) = (None, None);
@@ -77,7 +78,7 @@ impl Acceptor {
                 }
                 _ => {}
             }
-            // An edge comes once, so what a full system left is tried again later.
+            // The event comes only once, so connections that a full system left are tried again later.
             timeout = self.accept_all().err().map(|error| {
                 if said.is_none_or(|it: Instant| it.elapsed() >= SILENCE) {
                     tracing::warn!(%error, "connections aren't accepted for now");
@@ -87,13 +88,13 @@ impl Acceptor {
                 PAUSE
             });
         }
-        // What connected before the stop may have sent something, which is answered.
+        // A client that connected before the stop may have sent something, which is answered.
         if let Err(error) = self.accept_all() {
             tracing::warn!(%error, "a connection that came before the stop isn't accepted");
         }
     }
 
-    /// Accepts what is there; at a stop for no longer than its grace.
+    /// Accepts the connections that wait. During a stop it does so no longer than the grace period.
     fn accept_all(&mut self) -> io::Result<()> {
         let mut end = None;
         while end.is_none_or(|it| Instant::now() < it) {
@@ -101,7 +102,7 @@ impl Acceptor {
                 end = Some(Instant::now() + self.cluster.configuration.grace);
             }
             let Some(inlet) = self.next_inlet() else {
-                // Who connects meanwhile the system holds.
+                // The system holds the clients that connect meanwhile.
                 std::thread::sleep(BREATH);
                 continue;
             };
@@ -115,7 +116,7 @@ impl Acceptor {
         Ok(())
     }
 
-    /// That of the thread whose turn it is, of those that don't have enough to look at; none if all have.
+    /// Returns the inlet of the next thread in turn that doesn't have enough to look at; or nothing if all have.
     fn next_inlet(&mut self) -> Option<Arc<Inlet>> {
         let inlets = self.cluster.inlets();
         let turns = (1..=inlets.len()).map(|it| (self.turn + it) % inlets.len());
@@ -125,7 +126,7 @@ impl Acceptor {
 
     fn hand_on(&self, socket: TcpStream, from: SocketAddr, inlet: &Inlet) {
         if !self.cluster.takes_client() {
-            // By TLS nothing can be told yet.
+            // With TLS nothing can be told yet.
             if self.cluster.configuration.safety.tls.is_none() {
                 Stream::Plain(socket).refuse();
             }
@@ -163,7 +164,7 @@ mod tests {
     use crate::io::Inlet;
     use crate::keyspace::Rule;
 
-    /// One that gives so many connections at most to two threads.
+    /// Makes an acceptor that gives at most so many connections to two threads.
     fn begun(most_clients: usize) -> (Acceptor, [Arc<Inlet>; 2]) {
         let configuration = Configuration {
             most_clients,
@@ -178,14 +179,14 @@ mod tests {
         (Acceptor::new(cluster, listener).unwrap(), inlets)
     }
 
-    /// So many clients that connect.
+    /// Makes so many clients that connect.
     fn clients(acceptor: &Acceptor, count: usize) -> Vec<std::net::TcpStream> {
         let address = acceptor.address().unwrap();
         let client = |_| std::net::TcpStream::connect(address).unwrap();
         (0..count).map(client).collect()
     }
 
-    /// How many connections were brought.
+    /// Returns how many connections were given to the threads.
     fn brought(inlets: &[Arc<Inlet>]) -> usize {
         inlets.iter().map(|it| it.take().streams.len()).sum()
     }

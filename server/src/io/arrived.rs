@@ -5,18 +5,18 @@ use std::time::Instant;
 /// A connection that was accepted, and that no thread has met yet.
 #[derive(Debug)]
 pub(super) struct Arrived<S> {
-    /// What its bytes go through as yet.
+    /// The stream of its bytes so far.
     pub(super) stream: S,
-    /// Where its client connects from.
+    /// The address from which its client connects.
     pub(super) from: SocketAddr,
-    /// When its client came.
+    /// When its client connected.
     pub(super) since: Instant,
-    /// A number that no other connection has; who comes later has a higher one.
+    /// A number that only this connection has. Later connections have higher ones.
     pub(super) id: u64,
 }
 
 impl<S> Arrived<S> {
-    /// The same connection by another stream.
+    /// Returns the same connection with another stream.
     pub(super) fn by<T>(self, stream: impl FnOnce(S) -> T) -> Arrived<T> {
         let Arrived {
             stream: before,
@@ -33,7 +33,8 @@ impl<S> Arrived<S> {
         }
     }
 
-    /// Waits last in this queue. If more than `most` would wait there, returns the first, which gives way.
+    /// Puts the connection last into this queue. If there would be more than `most`, returns the first one, which gives
+    /// way.
     pub(super) fn wait_in(
         self,
         queue: &mut VecDeque<Arrived<S>>,

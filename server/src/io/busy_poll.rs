@@ -1,36 +1,37 @@
 use std::time::Duration;
 
-/// Waits of a trial of either way.
+/// How many waits a trial of either way has.
 const TRIAL: u32 = 256;
-/// Waits by the way that was quicker, before both are tried again: so many that the slower one is none in a hundred.
+/// How many waits use the quicker way before both are tried again. There are so many that the slower way is less than
+/// one in a hundred.
 const TERM: u32 = 32_768;
 
-/// Whether a thread that runs out of work polls for events for a short time before it sleeps. It makes sense where they
-/// came soon last time: a thread that is asked seldom uses no processor so. And it makes sense where there is a
-/// processor to spare; else a client would wait for the one on which the thread polls. So both ways are tried from time
-/// to time, and the one is taken by which the next events came sooner.
+/// Decides whether a thread that runs out of work polls for events for a short time before it sleeps. Polling makes
+/// sense if the last events came soon; a thread with few events then uses no processor. It also makes sense only if
+/// there is a processor to spare: otherwise a client would wait for the processor on which the thread polls. So both
+/// ways are tried from time to time, and the thread uses the one by which the next events came sooner.
 #[derive(Debug)]
 pub(super) struct BusyPoll {
     most: Duration,
     comes_soon: bool,
     stage: PollStage,
-    /// How many waits are left of the stage.
+    /// How many waits of the stage are left.
     left: u32,
-    /// How long its waits took, of which each counts as twice the most at most.
+    /// How long its waits took. Each counts at most as twice the longest polling time.
     spent: Duration,
 }
 
 #[derive(Clone, Copy, Debug, PartialEq, Eq)]
 enum PollStage {
     TryPolling,
-    /// After polling took so long.
+    /// It follows polling, which took so long.
     TrySleeping(Duration),
     Poll,
     Sleep,
 }
 
 impl BusyPoll {
-    /// At most for so long.
+    /// Makes one that polls for at most so long.
     pub(super) fn new(most: Duration) -> BusyPoll {
         BusyPoll {
             most,
@@ -41,18 +42,18 @@ impl BusyPoll {
         }
     }
 
-    /// Whether to poll.
+    /// Returns whether to poll.
     pub(super) fn begins(&self) -> bool {
         let polls = matches!(self.stage, PollStage::TryPolling | PollStage::Poll);
         polls && self.comes_soon && !self.most.is_zero()
     }
 
-    /// Whether to go on after so long.
+    /// Returns whether to go on polling after so long.
     pub(super) fn goes_on(&self, since: Duration) -> bool {
         since < self.most
     }
 
-    /// Notes that events came, to a thread that had no work for so long.
+    /// Notes that events came to a thread that had no work for so long.
     pub(super) fn note(&mut self, took: Duration) {
         self.comes_soon = took < self.most;
         self.spent += took.min(2 * self.most);
@@ -63,7 +64,7 @@ impl BusyPoll {
         }
     }
 
-    /// The next stage, and of how many waits it is.
+    /// Returns the next stage, and how many waits it has.
     fn next(&self) -> (PollStage, u32) {
         match self.stage {
             PollStage::TryPolling => (PollStage::TrySleeping(self.spent), TRIAL),
@@ -91,7 +92,7 @@ mod tests {
         assert!(!BusyPoll::new(Duration::ZERO).begins());
     }
 
-    /// Of the waits after both trials how many polled, where the next events came after so long by either way.
+    /// Returns how many waits polled after both trials, if the next events come after so long by either way.
     fn polled(polling: Duration, sleeping: Duration) -> u32 {
         let mut polls = BusyPoll::new(MOST);
         let waits = (0..2 * TRIAL + TERM).map(|_| {
@@ -106,7 +107,7 @@ mod tests {
     fn it_takes_the_quicker_way() {
         assert_eq!(polled(MOST / 6, MOST / 5), TERM);
         assert_eq!(polled(MOST / 4, MOST / 5), 0);
-        // Where they come seldom, no wait begins so.
+        // If events come seldom, no wait begins with polling.
         assert_eq!(polled(MOST / 4, 100 * MOST), 0);
     }
 }

@@ -1,16 +1,16 @@
 use std::sync::{Arc, Weak};
 
-/// Who asked for something, as those see who work for it: what they haven't begun they drop if nobody waits for it.
+/// The client or process that asked for something. Work that hasn't begun is dropped if nobody waits for it.
 #[derive(Clone, Debug, Default)]
 pub struct Caller(Option<Weak<()>>);
 
 impl Caller {
-    /// A client, who is there for as long as its connection has this.
+    /// Makes a client, who is there as long as its connection holds this.
     pub(super) fn client(presence: &Arc<()>) -> Caller {
         Caller(Some(Arc::downgrade(presence)))
     }
 
-    /// Whether it still waits. Another process always does.
+    /// Returns whether it still waits. Another process always does.
     pub fn is_there(&self) -> bool {
         self.0.as_ref().is_none_or(|it| it.strong_count() > 0)
     }

@@ -12,38 +12,38 @@ use std::iter;
 use std::sync::Arc;
 use std::time::{Duration, Instant};
 
-/// How many bytes of a client that is known are unsent before nothing more is read.
+/// If a known client has so many unsent bytes, nothing more is read from it.
 const MOST_UNSENT: usize = 256 << 10;
-/// How many bytes are taken at once of a command for which there is no memory.
+/// How many bytes are read at once of a command for which there is no memory.
 const PIECE: usize = 2 << 10;
-/// How long a command waits at least for a shard that other threads have, of which each has it for a short time.
+/// The least time that a command waits for a shard that other threads have, each for a short time.
 const LEAST_BUSY_WAIT: Duration = Duration::from_secs(1);
 
-/// What a client is answered first that gave no password yet, and sends a larger command than it may: the words are
-/// those of Redis.
+/// The first answer to a client that hasn't given a password yet, and that sends a larger command than it may. The
+/// words are those of Redis.
 const NOT_YET: &str = "ERR Protocol error: unauthenticated bulk length";
 
-/// What comes next for a connection after its turn.
+/// What a connection waits for after its turn.
 #[derive(Debug)]
 pub(super) enum Turn {
     /// An event of its socket.
     Rest,
     /// Another turn.
     Again,
-    /// Another turn, after others had a shard that it waits for.
+    /// Another turn, after others have had the shard for which it waits.
     Wait(Wait),
-    /// Another turn at that moment, and none before.
+    /// Another turn at that moment, and not before.
     PutOff(Instant),
     /// The control's answer to this command.
     Control(OwnedCommand),
     /// The answer of shards whose data outlives the process.
     Durable(ShardRequest),
-    /// Nothing: it is over.
+    /// Nothing, because the connection is over.
     Over,
 }
 
 impl Turn {
-    /// Whether the connection waits for more than a turn of others.
+    /// Returns whether the connection waits for more than the turns of others.
     pub(super) fn waits(&self) -> bool {
         match self {
             Turn::Rest | Turn::Again | Turn::Over | Turn::Wait(Wait::Busy(_)) => false,
@@ -57,27 +57,27 @@ impl Turn {
 pub(super) struct Connection {
     stream: Stream,
     pub(super) session: Session,
-    /// What was read, and isn't done.
+    /// Bytes that were read, and whose commands aren't done yet.
     input: Vec<u8>,
-    /// There is no whole command in fewer bytes of input.
+    /// The input has no whole command until it has so many bytes.
     needs: usize,
-    /// A command that is read to its end, as it is too large, and why it will be refused.
+    /// A command that is too large and is read to its end, and the reason for which it will be refused.
     read_away: Option<Box<(ReadAway, Oversized)>>,
     replies: Replies,
     is_readable: bool,
-    /// Whether the client won't send more, so that a short read isn't the last one.
+    /// Whether the client won't send more. Then a short read isn't the last one.
     is_half_closed: bool,
-    /// Whether the client has left, so that no answer reaches it.
+    /// Whether the client has left. Then no answer reaches it.
     has_left: bool,
-    /// What those see who work for the client, as long as the connection is there.
+    /// Held as long as the connection is there, so that those who work for the client can see that.
     presence: Option<Arc<()>>,
-    /// Whether all that the client sent was read.
+    /// Whether everything that the client sent was read.
     is_ended: bool,
-    /// Whether it ends when all was sent.
+    /// Whether it ends once everything is sent.
     is_last: bool,
     /// Since when the control or shards owe it an answer, if they do.
     owed_since: Option<Instant>,
-    /// When it came, until it has shown who it is; most have, so there is little room for that.
+    /// When it came, until it has logged in. Most connections have logged in, so this takes little room.
     stranger_since: Option<Box<Instant>>,
     /// Since when its next command waits.
     waits_since: Option<Instant>,
@@ -117,62 +117,62 @@ impl Connection {
         &mut self.stream
     }
 
-    /// Whether a turn is due before any event.
+    /// Returns whether a turn is due before any event.
     pub(super) fn is_readable(&self) -> bool {
         self.is_readable
     }
 
-    /// When it came, where it hasn't shown yet who it is.
+    /// Returns when it came, if it hasn't logged in yet.
     pub(super) fn stranger_since(&self) -> Option<Instant> {
         self.stranger_since.as_deref().copied()
     }
 
-    /// Whether it has shown since this was asked last who it is.
+    /// Returns whether it has logged in since this was called last.
     pub(super) fn becomes_known(&mut self) -> bool {
         self.session.is_known && self.stranger_since.take().is_some()
     }
 
-    /// Notes what happened at the socket, and returns whether a turn is due. While the next command waits or is owed an
-    /// answer none is, and the socket takes what was answered before.
+    /// Notes an event of the socket, and returns whether a turn is due. While the next command waits or is owed an
+    /// answer, no turn is due, and the socket takes earlier answers.
     pub(super) fn note(&mut self, event: &Event, executor: &mut Executor) -> bool {
         self.has_left |= event.is_write_closed() || event.is_error();
         self.is_half_closed |= event.is_read_closed() || self.has_left;
         self.is_readable |= event.is_readable() || self.is_half_closed;
         let is_due = self.is_readable || !self.is_sent();
         if self.is_held() && is_due {
-            // What fails fails again in the turn that comes then.
+            // If this fails, it fails again in the next turn.
             let _ = self.send(executor);
         }
         is_due && !self.is_held()
     }
 
-    /// Whether its client has left, so that no answer reaches it.
+    /// Returns whether its client has left, so that no answer reaches it.
     pub(super) fn has_left(&self) -> bool {
         self.has_left
     }
 
-    /// Whether its client sends no more, and may have left.
+    /// Returns whether its client sends no more, and may have left.
     pub(super) fn may_have_left(&self) -> bool {
         self.is_half_closed || self.is_ended
     }
 
-    /// Its client, as those see it who work for it.
+    /// Returns its client, for those who work for it.
     pub(super) fn caller(&mut self) -> Caller {
         Caller::client(self.presence.get_or_insert_default())
     }
 
-    /// Whether the next command waits, or is put off or owed an answer.
+    /// Returns whether the next command waits, or is put off or owed an answer.
     pub(super) fn is_held(&self) -> bool {
         self.owed_since.is_some() || self.waits_since.is_some() || self.is_put_off
     }
 
-    /// Has the command be looked at that was put off.
+    /// Lets the command go on that was put off.
     pub(super) fn go_on(&mut self) {
         self.is_put_off = false;
         self.session.may_guess = true;
     }
 
-    /// Takes the answer that was owed, and says for how long it was. If there is no memory for it beside others, the
+    /// Takes the answer that was owed, and returns for how long. If there is no memory for it beside others, the
     /// connection ends.
     pub(super) fn take_answer(&mut self, bytes: Vec<u8>) -> Duration {
         self.replies.append_owned(bytes);
@@ -182,32 +182,32 @@ impl Connection {
             .map_or(Duration::ZERO, |it| it.elapsed())
     }
 
-    /// Whether its command has waited for so long.
+    /// Returns whether its command has waited for so long.
     pub(super) fn has_waited(&self, wait: Duration) -> bool {
         self.waits_since.is_some_and(|it| it.elapsed() >= wait)
     }
 
-    /// Whether there is nothing that it would still be answered.
+    /// Returns whether no answer to it is outstanding.
     pub(super) fn is_quiet(&self) -> bool {
         !self.is_readable && !self.is_held() && self.is_sent()
     }
 
-    /// Whether the socket has taken all answers.
+    /// Returns whether the socket has taken all answers.
     fn is_sent(&self) -> bool {
         self.replies.unsent().is_empty() && !self.stream.has_unsent()
     }
 
-    /// Since when a command of it waits, if one does.
+    /// Returns since when its command waits, if one does.
     pub(super) fn waits_since(&self) -> Option<Instant> {
         self.waits_since
     }
 
-    /// The errors by which it was answered since they were taken last, if there are any.
+    /// Returns the errors with which it was answered since the last call, if there are any.
     pub(super) fn take_errors(&mut self) -> Option<ErrorCounts> {
         self.replies.take_errors()
     }
 
-    /// Reads at most once, does commands, and sends answers. A command that has waited for so long is refused.
+    /// Reads at most once, does commands, and sends answers. If a command has waited for so long, it is refused.
     pub(super) fn turn(
         &mut self,
         executor: &mut Executor,
@@ -230,14 +230,14 @@ impl Connection {
             return Ok(Turn::Over);
         }
         if self.is_last || self.owed_since.is_some() || self.is_put_off || is_full {
-            // A command that waited is tried again once the client has read more, of which the socket tells.
+            // A command that waited is tried again once the client has read more. An event of the socket tells that.
             self.waits_since = None;
             return Ok(Turn::Rest);
         }
         let stop = if self.input.len() >= self.needs {
             self.execute_input(executor)
         } else if self.is_ended {
-            // A client that sends no more may still read what it is answered.
+            // A client that sends no more may still read its answers.
             self.is_last = true;
             return Ok(if self.is_sent() {
                 Turn::Over
@@ -254,7 +254,7 @@ impl Connection {
         Ok(turn)
     }
 
-    /// What comes next where commands ended so.
+    /// Returns what comes next if commands stopped for this reason.
     fn after(&mut self, stop: Stop, executor: &mut Executor, wait: Duration) -> Turn {
         let waits_since = self.waits_since.take();
         self.needs = 1;
@@ -293,12 +293,12 @@ impl Connection {
         }
     }
 
-    /// Whether a command of so many bytes is more than who gave no password yet may send.
+    /// Returns whether a command of so many bytes is larger than a client without a password may send.
     fn is_too_much(&self, needs: usize) -> bool {
         !self.session.is_known && needs.max(self.input.len()) > MOST_OF_A_STRANGER
     }
 
-    /// Has the connection end whose client sends more than it may before it has shown who it is.
+    /// Ends the connection of a client that sends more than it may before it has logged in.
     fn end_of_stranger(&mut self) -> Turn {
         let bound = format!("a command has at most {MOST_OF_A_STRANGER} bytes");
         self.replies
@@ -307,7 +307,7 @@ impl Connection {
         Turn::Again
     }
 
-    /// Has the next command wait, or refuses it where it has waited for so long.
+    /// Makes the next command wait. If it has waited for so long, refuses it.
     fn wait(
         &mut self,
         reason: Wait,
@@ -337,7 +337,7 @@ impl Connection {
         self.forget(done);
     }
 
-    /// Forgets so many bytes of what was read, and has no room where nothing is left.
+    /// Forgets so many bytes of the input, and frees the room if none are left.
     fn forget(&mut self, done: usize) {
         self.input.drain(..done);
         if self.input.is_empty() {
@@ -345,7 +345,7 @@ impl Connection {
         }
     }
 
-    /// Forgets what was read of a command that is too large, and refuses it at its end.
+    /// Forgets the input of a command that is too large, and refuses the command at its end.
     fn forget_oversized(&mut self, executor: &mut Executor) -> Option<Stop> {
         let (away, why) = &mut **self.read_away.as_mut()?;
         let (taken, why) = match away.take(&self.input) {
@@ -361,11 +361,11 @@ impl Connection {
         }
         self.read_away = None;
         executor.refuse_oversized(&mut self.session, why, &mut self.replies);
-        // What is behind it is looked at in another turn.
+        // The bytes behind it are looked at in another turn.
         Some(Stop::Full)
     }
 
-    /// Does commands of what was read before.
+    /// Does the commands in the bytes that were read before.
     fn execute_input(&mut self, executor: &mut Executor) -> Stop {
         if let Some(stop) = self.forget_oversized(executor) {
             return stop;
@@ -376,7 +376,7 @@ impl Connection {
         stop
     }
 
-    /// Reads once, and does commands from where they were read; what is left is kept.
+    /// Reads once, and does the commands directly from the buffer. The rest is kept.
     fn read(&mut self, executor: &mut Executor, buffer: &mut [u8]) -> io::Result<Stop> {
         let count = match self.stream.read(buffer) {
             Ok(count) => count,
@@ -390,7 +390,7 @@ impl Connection {
             Err(error) => return Err(error),
         };
         self.is_ended = count == 0;
-        // More will be told, where all that was there is taken; the end is told once.
+        // If all bytes were taken, there will be another event. The end is told only once.
         let has_more = self.stream.may_have_more(count, buffer.len());
         self.is_readable = count > 0 && (has_more || self.is_half_closed);
         executor.admission().stats().received.add(count as u64);
@@ -403,11 +403,11 @@ impl Connection {
         self.keep(&buffer[done..count], stop, executor)
     }
 
-    /// Keeps what is left where commands ended so.
+    /// Keeps the rest of the bytes if commands stopped for this reason.
     fn keep(&mut self, left: &[u8], stop: Stop, executor: &mut Executor) -> io::Result<Stop> {
         let kept = match stop {
             Stop::Incomplete(_) => memory::append(&mut self.input, left),
-            // Whole commands are left, of which none can be refused before its turn.
+            // Whole commands are left, and none of them can be refused before its turn.
             _ => memory::append_surely(&mut self.input, left),
         };
         match (kept, &stop) {
@@ -417,7 +417,7 @@ impl Connection {
         }
     }
 
-    /// Goes on with a command by these further bytes of it, and does it if it is whole.
+    /// Adds these bytes to a command, and does it if it is whole.
     fn go_on_by(&mut self, executor: &mut Executor, more: &[u8]) -> io::Result<Stop> {
         if memory::append(&mut self.input, more).is_err() {
             self.give_up(more)?;
@@ -429,11 +429,11 @@ impl Connection {
         })
     }
 
-    /// Keeps nothing of a command for whose further bytes there is no memory: it is refused at its end.
+    /// Keeps nothing of a command if there is no memory for its further bytes. The command is refused at its end.
     fn give_up(&mut self, more: &[u8]) -> io::Result<()> {
         let begun = || Box::new((ReadAway::default(), Oversized::Memory));
         let (away, _) = &mut **self.read_away.get_or_insert_with(begun);
-        // There is room for a few at a time, of which hardly any stay.
+        // There is room for a few bytes at a time, and hardly any of them stay.
         for piece in iter::once(&[][..]).chain(more.chunks(PIECE)) {
             let kept = memory::append(&mut self.input, piece);
             kept.map_err(|_| ErrorKind::OutOfMemory)?;
@@ -443,7 +443,7 @@ impl Connection {
         Ok(())
     }
 
-    /// Sends what the socket takes.
+    /// Sends as many bytes as the socket takes.
     fn send(&mut self, executor: &mut Executor) -> io::Result<()> {
         while !self.replies.unsent().is_empty() {
             match self.stream.write(self.replies.unsent()) {

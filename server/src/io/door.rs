@@ -6,7 +6,7 @@ use std::collections::VecDeque;
 use std::sync::atomic::{AtomicBool, Ordering};
 use std::sync::{Mutex, MutexGuard, PoisonError};
 
-/// Where connections wait for the thread that does their handshakes.
+/// The queue of connections that wait for the thread that does their handshakes.
 #[derive(Debug)]
 pub(super) struct Door {
     newcomers: Mutex<VecDeque<Arrived<TcpStream>>>,
@@ -15,7 +15,7 @@ pub(super) struct Door {
 }
 
 impl Door {
-    /// That of the thread that this wakes.
+    /// Makes the queue of the thread that this wakes.
     pub(super) fn new(waker: Waker) -> Door {
         Door {
             newcomers: Mutex::default(),
@@ -24,7 +24,8 @@ impl Door {
         }
     }
 
-    /// Has a connection wait, and wakes the thread. If more than `most` would wait, returns the first, which gives way.
+    /// Queues a connection, and wakes the thread. If more than `most` would wait, returns the first one, which gives
+    /// way.
     pub(super) fn bring(
         &self,
         newcomer: Arrived<TcpStream>,
@@ -35,27 +36,28 @@ impl Door {
         first
     }
 
-    /// How many connections wait.
+    /// Returns how many connections wait.
     pub(super) fn len(&self) -> usize {
         self.newcomers().len()
     }
 
-    /// Takes the connection that has waited for longest.
+    /// Takes the connection that has waited longest.
     pub(super) fn take(&self) -> Option<Arrived<TcpStream>> {
         self.newcomers().pop_front()
     }
 
-    /// Has the thread look at what waits.
+    /// Wakes the thread, so that it looks at the queue.
     pub(super) fn wake(&self) {
         wake(&self.waker);
     }
 
-    /// Notes that no more connections are handed on. Whoever sees this also sees those that were.
+    /// Notes that no more connections are handed on. If a thread sees this note, it also sees every connection that was
+    /// handed on.
     pub(super) fn close(&self) {
         self.is_open.store(false, Ordering::Release);
     }
 
-    /// Whether connections may still be handed on after their handshakes.
+    /// Returns whether connections may still be handed on after their handshakes.
     pub(super) fn is_open(&self) -> bool {
         self.is_open.load(Ordering::Acquire)
     }

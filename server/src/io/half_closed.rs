@@ -1,22 +1,23 @@
 use std::collections::HashMap;
 use std::time::{Duration, Instant};
 
-/// How many connections of clients that send no more wait at once for an answer, over all threads.
+/// The most connections of all threads that wait for an answer although their clients send no more.
 const MOST: usize = 128;
-/// How long one waits.
+/// How long such a connection waits.
 const WAIT: Duration = Duration::from_secs(1);
 
-/// A thread's connections that wait for an answer and whose clients send no more. A client may still read then, or have
-/// left: until something is sent to it the system doesn't tell which. So they wait for a short time, and are few.
+/// A thread's connections that wait for an answer although their clients send no more. Such a client may still read, or
+/// may have left. The system doesn't tell which until something is sent to the client. So these connections wait only
+/// for a short time, and are few.
 #[derive(Debug)]
 pub(super) struct HalfClosed {
     most: usize,
-    /// Until when each waits, and its place, by its number.
+    /// Until when each connection waits, and its place, by its number.
     waiting: HashMap<u64, (Instant, usize)>,
 }
 
 impl HalfClosed {
-    /// Those of one of so many threads.
+    /// Makes the list of one of so many threads.
     pub(super) fn new(threads: usize) -> HalfClosed {
         HalfClosed {
             most: (MOST / threads.max(1)).max(1),
@@ -24,7 +25,7 @@ impl HalfClosed {
         }
     }
 
-    /// Has the connection with this number, at this place, wait. Returns whether it may.
+    /// Makes the connection with this number, at this place, wait. Returns whether it may.
     pub(super) fn begin(&mut self, id: u64, place: usize, now: Instant) -> bool {
         let may = self.waiting.len() < self.most || self.waiting.contains_key(&id);
         if may {
@@ -38,12 +39,12 @@ impl HalfClosed {
         self.waiting.remove(&id);
     }
 
-    /// When the next one has waited for long enough, if one waits.
+    /// Returns when the next connection will have waited long enough, if one waits.
     pub(super) fn next_end(&self) -> Option<Instant> {
         self.waiting.values().map(|it| it.0).min()
     }
 
-    /// The places of those that have waited for long enough.
+    /// Returns the places of the connections that have waited long enough.
     pub(super) fn due(&self, now: Instant) -> Vec<usize> {
         let due = self.waiting.values().filter(|it| it.0 <= now);
         due.map(|it| it.1).collect()

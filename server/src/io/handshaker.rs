@@ -13,26 +13,26 @@ use std::time::{Duration, Instant};
 
 /// How many events are taken at once.
 const EVENTS: usize = 64;
-/// How often handshakes that take too long are looked for.
+/// How often it looks for handshakes that take too long.
 const SWEEP: Duration = Duration::from_millis(500);
 /// How long it waits for events at a stop.
 const TICK: Duration = Duration::from_millis(5);
 
-/// Does the TLS handshakes of clients for a thread that owns connections, so that no handshake holds up those whom that
-/// thread serves. A handshake that waits for its client costs memory only, and its bytes are bounded. Who is in one is
-/// a stranger, and strangers are bounded: the one that came first gives way, wherever it is.
+/// Does the TLS handshakes of clients for a thread that owns connections, so that no handshake delays the clients of
+/// that thread. A handshake that waits for its client costs only memory, and its bytes are bounded. A client in a
+/// handshake is a stranger, and strangers are bounded: the one that came first gives way, wherever it is.
 #[derive(Debug)]
 pub struct Handshaker {
     cluster: Arc<Cluster>,
     inlet: Arc<Inlet>,
     poll: Poll,
-    /// The handshakes that aren't over.
+    /// The handshakes under way.
     begun: Slab<Arrived<TlsStream>>,
     swept: Instant,
 }
 
 impl Handshaker {
-    /// For the thread of this inlet, which gets its connections through this one from now on.
+    /// Makes the handshaker of the thread with this inlet, which gets its connections through it from now on.
     pub fn new(cluster: Arc<Cluster>, inlet: Arc<Inlet>) -> io::Result<Handshaker> {
         let poll = Poll::new()?;
         inlet.set_door(Waker::new(poll.registry(), WAKE)?);
@@ -45,7 +45,7 @@ impl Handshaker {
         })
     }
 
-    /// Does handshakes until the cluster stops. Then it does those whose bytes have come, within the cluster's grace.
+    /// Does handshakes until the cluster stops. Then it finishes those whose bytes have come, within the grace period.
     pub fn run(mut self) -> io::Result<()> {
         let mut events = Events::with_capacity(EVENTS);
         let mut end = None;
@@ -54,7 +54,8 @@ impl Handshaker {
                 Err(error) if error.kind() != ErrorKind::Interrupted => return Err(error),
                 _ => {}
             }
-            // This is read first, so that all that the acceptor brought before it ended is among the newcomers.
+            // This must be read first. Then everything that the acceptor brought before it ended is among the
+            // newcomers.
             let is_accepting = self.cluster.is_accepting();
             let is_quiet = !is_accepting && self.inlet.newcomers() == 0 && events.is_empty();
             if end.is_some_and(|it| is_quiet || Instant::now() >= it) {
@@ -71,7 +72,7 @@ impl Handshaker {
         }
     }
 
-    /// How long to wait for events at most.
+    /// Returns the longest time to wait for events.
     fn patience(&self) -> Option<Duration> {
         match self.cluster.is_stopping() {
             true => Some(TICK),
@@ -79,7 +80,8 @@ impl Handshaker {
         }
     }
 
-    /// Begins the handshakes of those who wait, but not of those who come meanwhile, so that others go on between.
+    /// Begins the handshakes of the connections that wait now. Those that come meanwhile wait, so that other handshakes
+    /// go on in between.
     fn take_newcomers(&mut self) {
         for _ in 0..self.inlet.newcomers() {
             let Some(newcomer) = self.inlet.take_newcomer() else {
@@ -90,13 +92,13 @@ impl Handshaker {
         }
     }
 
-    /// Has the strangers that came first give way to one more, so that nobody keeps others out by many that say
-    /// nothing.
+    /// Makes the strangers that came first give way to one more, so that nobody can keep others out with many
+    /// connections that say nothing.
     fn make_room(&mut self) {
         while let Some((id, at)) = self.inlet.give_way() {
             match at {
                 Whereabouts::Handshake(place) => self.close(place),
-                // It isn't taken there.
+                // It is refused when the other thread takes it.
                 Whereabouts::Between => {}
                 Whereabouts::Connection(place) => self.inlet.have_closed(place, id),
             }
@@ -114,7 +116,7 @@ impl Handshaker {
         }
     }
 
-    /// Gives the connection a place, by which its events are known.
+    /// Gives the connection a place, which identifies its events.
     fn opened(&mut self, newcomer: Arrived<TcpStream>) -> io::Result<usize> {
         let Some(tls) = &self.cluster.configuration.safety.tls else {
             return Err(io::Error::other("clients aren't met by TLS"));
@@ -131,7 +133,7 @@ impl Handshaker {
         Ok(place)
     }
 
-    /// Continues the handshake there, and hands the connection on when it is over.
+    /// Continues the handshake at this place, and hands the connection on once it is over.
     fn go_on(&mut self, place: usize) {
         let Some(handshake) = self.begun.get_mut(place) else {
             return;
@@ -154,7 +156,7 @@ impl Handshaker {
         }
     }
 
-    /// Closes from time to time the connections whose handshakes take too long.
+    /// From time to time closes the connections whose handshakes take too long.
     fn close_late(&mut self) {
         if self.begun.is_empty() || self.swept.elapsed() < SWEEP {
             return;
@@ -168,7 +170,7 @@ impl Handshaker {
     }
 
     fn close(&mut self, place: usize) {
-        // The drop closes it, by which it is deregistered too.
+        // Dropping it closes and deregisters it.
         let handshake = self.begun.remove(place);
         self.inlet.note_lost(handshake.id);
     }

@@ -13,40 +13,41 @@ use std::sync::atomic::{AtomicU64, AtomicUsize, Ordering};
 use std::sync::{Arc, Mutex, MutexGuard, OnceLock, PoisonError};
 use std::time::Instant;
 
-/// The token of what wakes a thread.
+/// The token of the event that wakes a thread.
 pub(super) const WAKE: Token = Token(usize::MAX);
 
-/// Of strangers that a thread may have, one of so many may be brought before it looks, and no more than these.
+/// One in so many of a thread's strangers may be brought before it looks, and at most this many.
 const WAITING: usize = 4;
 const MOST_WAITING: usize = 256;
 
-/// How many connections are brought to a thread before it looks, if clients needn't show who they are.
+/// The most connections that are brought to a thread before it looks, if clients needn't log in.
 const MOST_BROUGHT: usize = 32;
 
 /// The number of the last connection.
 static LAST_ID: AtomicU64 = AtomicU64::new(0);
 
-/// What reaches a thread from others.
+/// The inlet through which other threads reach a thread.
 pub struct Inlet {
     brought: Mutex<Brought>,
     waker: Waker,
     stats: Arc<Stats>,
     version: AtomicU64,
-    /// How many connections the thread has whose clients haven't shown who they are, wherever they are.
+    turns: AtomicU64,
+    /// How many connections the thread has whose clients haven't logged in, wherever they are.
     strangers: AtomicUsize,
-    /// Those of them that were met.
+    /// The strangers that were met.
     met: Mutex<Strangers>,
-    /// How many strangers the thread may have, where clients have to show who they are.
+    /// The most strangers that the thread may have, if clients must log in.
     most_strangers: Option<usize>,
-    /// Where connections wait for their handshakes, if clients speak TLS.
+    /// The queue of connections that wait for their handshakes, if clients speak TLS.
     door: OnceLock<Door>,
 }
 
-/// What others brought since the thread looked last.
+/// The things that other threads brought since the thread looked last.
 #[derive(Debug, Default)]
 pub(super) struct Brought {
     pub(super) streams: VecDeque<Arrived<Stream>>,
-    /// Strangers that have to give way, by their places and the numbers of their connections.
+    /// Strangers that must give way, by their places and the numbers of their connections.
     pub(super) leaving: Vec<(usize, u64)>,
     pub(super) answers: Vec<Delivery>,
 }
@@ -57,7 +58,7 @@ impl Brought {
     }
 }
 
-/// An answer of the control or of shards to a connection.
+/// An answer of the control or of shards, to a connection.
 #[derive(Debug)]
 pub(super) struct Delivery {
     pub(super) place: usize,
@@ -68,13 +69,14 @@ pub(super) struct Delivery {
 }
 
 impl Inlet {
-    /// That of the thread that polls this.
+    /// Makes the inlet of the thread with this poll.
     pub fn new(poll: &Poll, servers: u16) -> io::Result<Inlet> {
         Ok(Inlet {
             brought: Mutex::default(),
             waker: Waker::new(poll.registry(), WAKE)?,
             stats: Arc::new(Stats::new(servers)),
             version: AtomicU64::new(0),
+            turns: AtomicU64::new(0),
             strangers: AtomicUsize::new(0),
             met: Mutex::default(),
             most_strangers: None,
@@ -82,7 +84,7 @@ impl Inlet {
         })
     }
 
-    /// The same where the thread has no more strangers than these, if there is a bound.
+    /// Returns the inlet, of a thread that has at most so many strangers if there is a bound.
     pub fn with_most_strangers(self, most_strangers: Option<usize>) -> Inlet {
         Inlet {
             most_strangers,
@@ -90,23 +92,23 @@ impl Inlet {
         }
     }
 
-    /// How many of them may be brought before they are met.
+    /// Returns how many strangers may be brought before they are met.
     fn most_waiting(&self) -> Option<usize> {
         let most = self.most_strangers?;
         Some((most / WAITING).clamp(1, MOST_WAITING))
     }
 
-    /// How many of them it may have met, if there is a bound. If another thread meets them, as many as may wait may
-    /// also have given way and not be closed yet.
+    /// Returns how many strangers it may have met, if there is a bound. If another thread meets them, as many as may
+    /// wait may also have given way without being closed yet.
     fn most_met(&self) -> Option<usize> {
         let threads = 1 + usize::from(self.has_door());
         let kept = threads * self.most_waiting()?;
         Some(self.most_strangers?.saturating_sub(kept).max(1))
     }
 
-    /// Has the thread own a connection from there, of a stranger as yet. If clients speak TLS, the handshake comes
-    /// first. Returns the one that gives way to it, if too many wait; none before a handshake, as nothing can be told
-    /// it then.
+    /// Gives the thread a connection from this address, which is a stranger's at first. If clients speak TLS, the
+    /// handshake comes first. If too many wait, returns the one that gives way. Before a handshake it returns none,
+    /// because nothing can be told to such a client.
     pub(super) fn bring(&self, socket: TcpStream, from: SocketAddr) -> Option<Stream> {
         self.stats.open.note_more();
         self.strangers.fetch_add(1, Ordering::Relaxed);
@@ -129,30 +131,30 @@ impl Inlet {
         first.stream
     }
 
-    /// Whether the thread is to look first at those that it was brought, before more are accepted. Strangers have a
-    /// bound of their own, by which the first ones give way.
+    /// Returns whether the thread must first look at the connections that it was given, before more are accepted.
+    /// Strangers have their own bound, by which the first ones give way.
     pub(super) fn is_full(&self) -> bool {
         self.most_strangers.is_none() && self.brought().streams.len() >= MOST_BROUGHT
     }
 
-    /// Has connections wait for the thread that does their handshakes, which this wakes.
+    /// Sets the queue in which connections wait for the handshake thread. This waker wakes that thread.
     pub(super) fn set_door(&self, waker: Waker) {
         // It is set once, before the first connection.
         let _ = self.door.set(Door::new(waker));
     }
 
-    /// Whether another thread does handshakes for this one, and meets its strangers.
+    /// Returns whether another thread does handshakes for this one, and meets its strangers.
     pub(super) fn has_door(&self) -> bool {
         self.door.get().is_some()
     }
 
-    /// How many connections wait for their handshakes.
+    /// Returns how many connections wait for their handshakes.
     pub(super) fn newcomers(&self) -> usize {
         self.door.get().map_or(0, Door::len)
     }
 
-    /// Takes the connection that has waited for its handshake for longest. Returns none, too, as long as the thread has
-    /// yet to close so many that gave way that this one could be beyond the bound.
+    /// Takes the connection that has waited for its handshake longest. Returns none as long as the thread must first
+    /// close many that gave way, because this one could exceed the bound.
     pub(super) fn take_newcomer(&self) -> Option<Arrived<TcpStream>> {
         match self.is_leaving_full(self.met().leaving()) {
             true => None,
@@ -160,76 +162,78 @@ impl Inlet {
         }
     }
 
-    /// Whether no more strangers may give way before some of so many are closed.
+    /// Returns whether no more strangers may give way until some of so many are closed.
     fn is_leaving_full(&self, leaving: usize) -> bool {
         self.most_waiting().is_some_and(|most| leaving >= most)
     }
 
-    /// Has the thread own a connection whose handshake is over.
+    /// Gives the thread a connection whose handshake is over.
     pub(super) fn hand_on(&self, arrived: Arrived<Stream>) {
         self.met().note_moved(arrived.id, Whereabouts::Between);
         self.change(|it| it.streams.push_back(arrived));
     }
 
-    /// Notes that no more connections are handed on. Whoever sees this also sees those that were.
+    /// Notes that no more connections are handed on. If a thread sees this note, it also sees every connection that was
+    /// handed on.
     pub(super) fn close_door(&self) {
         self.door.get().iter().for_each(|it| it.close());
     }
 
-    /// Whether connections may still be handed on after their handshakes.
+    /// Returns whether connections may still be handed on after their handshakes.
     pub(super) fn has_open_door(&self) -> bool {
         self.door.get().is_some_and(Door::is_open)
     }
 
-    /// Notes that a stranger was met there.
+    /// Notes that a stranger was met at this place.
     pub(super) fn note_met(&self, id: u64, at: Whereabouts) {
         self.met().add(id, at);
     }
 
-    /// Notes that one that was met is there now. Returns whether it may stay: false if it gave way meanwhile.
+    /// Notes that a stranger that was met is at this place now. Returns whether it may stay: false if it gave way
+    /// meanwhile.
     pub(super) fn note_moved(&self, id: u64, at: Whereabouts) -> bool {
         self.met().note_moved(id, at)
     }
 
-    /// Has the stranger that came first of those that were met give way, if one more would be too many. Returns which
-    /// it is; who has it has to close it.
+    /// If one more would be too many, makes the stranger give way that came first of those that were met, and returns
+    /// it. Its owner must close it.
     pub(super) fn give_way(&self) -> Option<(u64, Whereabouts)> {
         self.met().give_way(self.most_met()?)
     }
 
-    /// Has the thread close the connection of a stranger that gave way.
+    /// Asks the thread to close the connection of a stranger that gave way.
     pub(super) fn have_closed(&self, place: usize, id: u64) {
         self.change(|it| it.leaving.push((place, id)));
     }
 
-    /// The places of strangers' connections, in the order in which they came.
+    /// Returns the places of strangers' connections, in the order in which they came.
     pub(super) fn places_of_strangers(&self) -> Vec<usize> {
         self.met().connections()
     }
 
-    /// How many connections the thread has whose clients have shown who they are, or needn't.
+    /// Returns how many connections the thread has whose clients have logged in, or needn't.
     pub fn known(&self) -> usize {
         let open = self.stats.open.get() as usize;
         open.saturating_sub(self.strangers())
     }
 
-    /// Has the thread look at what others brought or changed.
+    /// Wakes the thread, so that it looks at what others brought or changed.
     pub fn wake(&self) {
         wake(&self.waker);
     }
 
-    /// The same at a stop, which the thread that does its handshakes must see too.
+    /// Does the same at a stop, which its handshake thread must see, too.
     pub fn wake_for_stop(&self) {
         self.door.get().iter().for_each(|it| it.wake());
         self.wake();
     }
 
-    /// How many connections the thread has whose clients haven't shown who they are.
+    /// Returns how many connections the thread has whose clients haven't logged in.
     pub fn strangers(&self) -> usize {
         self.strangers.load(Ordering::Relaxed)
     }
 
-    /// Notes that a stranger has shown that, or went.
+    /// Notes that a stranger has logged in, or left.
     pub(super) fn note_stranger_less(&self, id: u64) {
         self.strangers.fetch_sub(1, Ordering::Relaxed);
         let mut met = self.met();
@@ -250,12 +254,23 @@ impl Inlet {
         self.met.lock().unwrap_or_else(PoisonError::into_inner)
     }
 
-    /// What the thread counts.
+    /// Returns the thread's counters.
     pub fn stats(&self) -> &Arc<Stats> {
         &self.stats
     }
 
-    /// The version of the servers' presence that the thread has acted upon.
+    /// Returns how often the thread has looked for something to do.
+    pub fn turns(&self) -> u64 {
+        self.turns.load(Ordering::Acquire)
+    }
+
+    /// Notes that the thread looks once more. Only the thread itself may call this.
+    pub(super) fn note_turn(&self) {
+        let turns = self.turns.load(Ordering::Relaxed);
+        self.turns.store(turns.wrapping_add(1), Ordering::Release);
+    }
+
+    /// Returns the version of the servers' presence that the thread has acted upon.
     pub fn version(&self) -> u64 {
         self.version.load(Ordering::Acquire)
     }
@@ -269,20 +284,20 @@ impl Inlet {
         self.brought.lock().unwrap_or_else(PoisonError::into_inner)
     }
 
-    /// Takes what others brought.
+    /// Takes everything that others brought.
     pub(super) fn take(&self) -> Brought {
         std::mem::take(&mut self.brought())
     }
 
-    /// Whether others brought nothing that the thread hasn't taken.
+    /// Returns whether the thread has taken everything that others brought.
     pub(super) fn is_empty(&self) -> bool {
         self.brought().is_empty()
     }
 
-    /// Changes what others brought, and wakes the thread if it hasn't been woken for that yet.
+    /// Changes the queue of what others brought, and wakes the thread if it hasn't been woken for that yet.
     pub(super) fn change<T>(&self, change: impl FnOnce(&mut Brought) -> T) -> T {
         let mut brought = self.brought();
-        // Where something lies there already, the thread was woken for that, and hasn't looked yet.
+        // If something is there already, the thread was woken for it, and hasn't looked yet.
         let is_first = brought.is_empty();
         let found = change(&mut brought);
         drop(brought);
@@ -323,7 +338,7 @@ mod tests {
         for place in 0..50 {
             clients.push(Client::connect(listener.local_addr().unwrap()).unwrap());
             let (socket, from) = listener.accept().unwrap();
-            // Before its handshake nobody is told anything.
+            // Before its handshake, a client can't be told anything.
             assert!(inlet.bring(TcpStream::from_std(socket), from).is_none());
             if let Some(newcomer) = inlet.take_newcomer() {
                 gone.extend(inlet.give_way());
@@ -331,7 +346,7 @@ mod tests {
             }
             assert!(inlet.strangers() <= 8);
         }
-        // Those that gave way hold places, as the thread hasn't closed them.
+        // Those that gave way still have places, because the thread hasn't closed them.
         assert_eq!(gone.len(), 2);
         assert_eq!(inlet.met().connections(), [2, 3, 4, 5]);
         assert_eq!((inlet.newcomers(), inlet.strangers()), (2, 8));

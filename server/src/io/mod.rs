@@ -1,4 +1,5 @@
-//! Threads that own connections, and do at the board what these ask for.
+//! The threads that own connections, and do their clients' commands: at the board for data in memory, and otherwise
+//! through the driver.
 mod acceptor;
 mod arrived;
 mod busy_poll;

@@ -4,13 +4,13 @@ use crate::stats::ErrorCounts;
 use std::fmt;
 use std::sync::Arc;
 
-/// How much of an answer stands in the log.
+/// How many bytes of an answer are logged.
 const MOST_LOGGED: usize = 200;
 
-/// Where an answer goes, once.
+/// The address of an answer, which is sent once.
 pub struct ReplyAddress {
     to: To,
-    /// What was asked for, where the log says what it came to.
+    /// The words that were asked, if the log tells their outcome.
     asked: Option<Box<str>>,
 }
 
@@ -24,7 +24,7 @@ enum To {
     },
     /// To another process.
     Process(Box<dyn FnOnce(Vec<u8>) + Send>),
-    /// To another process, which asks elsewhere where nothing is done.
+    /// To another process, which asks elsewhere if nothing is done.
     Asking(Box<dyn FnOnce(Option<Vec<u8>>) + Send>),
 }
 
@@ -36,7 +36,7 @@ impl From<To> for ReplyAddress {
 }
 
 impl ReplyAddress {
-    /// To the connection with this number, at this place of the thread, of this client.
+    /// Makes the address of the connection with this number, at this place of the thread, of this client.
     pub(super) fn connection(
         inlet: Arc<Inlet>,
         (place, id): (usize, u64),
@@ -51,7 +51,7 @@ impl ReplyAddress {
         .into()
     }
 
-    /// Who asked.
+    /// Returns who asked.
     pub fn caller(&self) -> Caller {
         match &self.to {
             To::Connection { caller, .. } => caller.clone(),
@@ -59,22 +59,23 @@ impl ReplyAddress {
         }
     }
 
-    /// To another process, by who is given the answer.
+    /// Makes the address of another process, which gets the answer through this closure.
     pub fn process(tell: impl FnOnce(Vec<u8>) + Send + 'static) -> ReplyAddress {
         To::Process(Box::new(tell)).into()
     }
 
-    /// To another process, by who is given the answer, or none where nothing was done: then it asks elsewhere.
+    /// Makes the address of another process, which gets the answer through this closure, or nothing if nothing was
+    /// done: then it asks elsewhere.
     pub fn asking_process(tell: impl FnOnce(Option<Vec<u8>>) + Send + 'static) -> ReplyAddress {
         To::Asking(Box::new(tell)).into()
     }
 
-    /// Whether another process asked, which asks elsewhere where nothing is done.
+    /// Returns whether another process asked, which asks elsewhere if nothing is done.
     pub fn asks_elsewhere(&self) -> bool {
         matches!(self.to, To::Asking(_))
     }
 
-    /// Whether the client is still there. If it isn't, the log says of what it logs that nothing is done.
+    /// Returns whether the client is still there. If it isn't, and the outcome is logged, logs that nothing is done.
     pub fn is_awaited(&self) -> bool {
         let is_awaited = self.caller().is_there();
         if let (Some(asked), false) = (&self.asked, is_awaited) {
@@ -83,7 +84,7 @@ impl ReplyAddress {
         is_awaited
     }
 
-    /// The same where the log says what the answer to these words is.
+    /// Returns the same address, which also logs the answer to these words.
     pub fn logged(self, asked: String) -> ReplyAddress {
         ReplyAddress {
             asked: Some(asked.into()),
@@ -91,7 +92,7 @@ impl ReplyAddress {
         }
     }
 
-    /// Tells a process that asks elsewhere then that nothing was done.
+    /// Tells the other process that nothing was done, so that it asks elsewhere.
     pub fn give_back(self) {
         if let To::Asking(tell) = self.to {
             tell(None);

@@ -1,9 +1,9 @@
 use std::collections::{BTreeMap, BTreeSet};
 
-/// Where a stranger is that was met.
+/// The place of a stranger that was met.
 #[derive(Clone, Copy, Debug, PartialEq, Eq)]
 pub(super) enum Whereabouts {
-    /// At this place of the thread that does handshakes.
+    /// At this place of the handshake thread.
     Handshake(usize),
     /// On the way from there to the thread that owns connections.
     Between,
@@ -11,42 +11,41 @@ pub(super) enum Whereabouts {
     Connection(usize),
 }
 
-/// Clients of a thread, and of the one that does its handshakes, that were met and haven't shown yet who they are, by
-/// the numbers of their connections, which rise as they come.
+/// Clients that were met by a thread, or by its handshake thread, and haven't logged in yet. They are sorted by the
+/// numbers of their connections, which ascend as they come.
 #[derive(Debug, Default)]
 pub(super) struct Strangers {
     met: BTreeMap<u64, Whereabouts>,
-    /// Those that gave way, and that the thread that owns connections hasn't closed yet.
+    /// The strangers that gave way, and that the thread that owns connections hasn't closed yet.
     leaving: BTreeSet<u64>,
 }
 
 impl Strangers {
-    /// Adds a client that was met there.
+    /// Adds a client that was met at this place.
     pub(super) fn add(&mut self, id: u64, at: Whereabouts) {
         self.met.insert(id, at);
     }
 
-    /// Notes that one is there now. Returns whether it may stay: false if it gave way meanwhile.
+    /// Notes that a client is at this place now. Returns whether it may stay: false if it gave way meanwhile.
     pub(super) fn note_moved(&mut self, id: u64, at: Whereabouts) -> bool {
         let found = self.met.get_mut(&id);
         found.map(|it| *it = at).is_some()
     }
 
-    /// Notes that one has shown who it is, or went.
+    /// Notes that a client has logged in, or left.
     pub(super) fn remove(&mut self, id: u64) {
         self.met.remove(&id);
         self.leaving.remove(&id);
     }
 
-    /// Has the one that came first give way if there are `most` or more, and returns it. It has to be closed by who has
-    /// it.
+    /// If there are `most` or more, makes the one that came first give way, and returns it. Its owner must close it.
     pub(super) fn give_way(&mut self, most: usize) -> Option<(u64, Whereabouts)> {
         if self.met.len() < most {
             return None;
         }
         let (id, at) = self.met.pop_first()?;
         match at {
-            // Who asks closes it at once.
+            // The caller closes it at once.
             Whereabouts::Handshake(_) => {}
             Whereabouts::Between | Whereabouts::Connection(_) => {
                 self.leaving.insert(id);
@@ -55,12 +54,12 @@ impl Strangers {
         Some((id, at))
     }
 
-    /// How many gave way that aren't closed yet.
+    /// Returns how many gave way and aren't closed yet.
     pub(super) fn leaving(&self) -> usize {
         self.leaving.len()
     }
 
-    /// The places of those with connections, in the order in which they came.
+    /// Returns the places of strangers with connections, in the order in which they came.
     pub(super) fn connections(&self) -> Vec<usize> {
         let places = self.met.values().filter_map(|it| match it {
             Whereabouts::Connection(place) => Some(*place),
@@ -87,7 +86,7 @@ mod tests {
         assert_eq!(strangers.give_way(3), Some((11, Connection(7))));
         assert_eq!(strangers.give_way(2), Some((12, Between)));
         assert_eq!(strangers.give_way(2), None);
-        // The thread that owns connections doesn't take who gave way on the way there.
+        // The thread that owns connections doesn't take a client that gave way on its way there.
         assert!(!strangers.note_moved(12, Connection(8)));
         assert!(strangers.note_moved(13, Connection(8)));
     }

@@ -2,10 +2,10 @@ use super::tls_stream::TlsStream;
 use mio::net::TcpStream;
 use std::io::{self, Read, Write};
 
-/// What a client is told for which there is no place, as by Redis.
+/// The answer to a client for which there is no place, as from Redis.
 const FULL: &[u8] = b"-ERR max number of clients reached\r\n";
 
-/// What a client's bytes go through.
+/// The stream of a client's bytes.
 #[derive(Debug)]
 pub(super) enum Stream {
     Plain(TcpStream),
@@ -20,28 +20,28 @@ impl Stream {
         }
     }
 
-    /// Says that there is no place. Whether the client reads that or not, it is let go.
+    /// Tells the client that there is no place. The connection ends whether the client reads that or not.
     pub(super) fn refuse(&mut self) {
         self.refuse_for(FULL);
     }
 
-    /// The same for another reason.
+    /// Does the same for another reason.
     pub(super) fn refuse_for(&mut self, why: &[u8]) {
         let _ = self.write(why);
     }
 
-    /// Whether bytes may have come for which there will be no event, because they came with the handshake.
+    /// Returns whether bytes may have come for which there will be no event, because they came with the handshake.
     pub(super) fn may_have_come(&self) -> bool {
         matches!(self, Stream::Tls(_))
     }
 
-    /// Whether bytes that were written wait for the socket.
+    /// Returns whether bytes that were written wait for the socket.
     pub(super) fn has_unsent(&self) -> bool {
         matches!(self, Stream::Tls(tls) if tls.has_unsent())
     }
 
-    /// Whether more may be there to be read, after a read gave so many of so many bytes. Where it is none, the socket
-    /// tells when more came.
+    /// Returns whether there may be more to read, after a read returned so many of so many bytes. If not, the socket
+    /// tells when more has come.
     pub(super) fn may_have_more(&self, count: usize, room: usize) -> bool {
         match self {
             // A short read took all that was there.
@@ -50,7 +50,7 @@ impl Stream {
         }
     }
 
-    /// Reads what is there, as a socket does.
+    /// Reads the bytes that are there, as a socket does.
     pub(super) fn read(&mut self, buffer: &mut [u8]) -> io::Result<usize> {
         match self {
             Stream::Plain(socket) => socket.read(buffer),
@@ -66,7 +66,7 @@ impl Stream {
         }
     }
 
-    /// Gives the socket what it takes of bytes that wait.
+    /// Gives waiting bytes to the socket, as many as it takes.
     pub(super) fn flush(&mut self) -> io::Result<()> {
         match self {
             Stream::Plain(_) => Ok(()),

@@ -5,9 +5,9 @@ use std::io::{self, ErrorKind, Read, Write};
 
 /// How many bytes are read from the socket at once.
 const ROOM: usize = 32 << 10;
-/// How often one read may read the socket, so that a client that sends parts of records holds up nobody.
+/// How often one read may read the socket. The bound keeps a client that sends parts of records from delaying others.
 const MOST_READS: usize = 8;
-/// How many bytes of records may wait for the socket.
+/// The most bytes of records that may wait for the socket.
 const MOST_SEALED: usize = 64 << 10;
 
 thread_local! {
@@ -15,7 +15,7 @@ thread_local! {
     static CAME: RefCell<Box<[u8]>> = RefCell::new(vec![0; ROOM].into());
 }
 
-/// A client's bytes by TLS, over a socket that never waits.
+/// A client's bytes through TLS, over a nonblocking socket.
 #[derive(Debug)]
 pub(super) struct TlsStream {
     socket: TcpStream,
@@ -25,7 +25,7 @@ pub(super) struct TlsStream {
 }
 
 impl TlsStream {
-    /// A connection before its handshake.
+    /// Makes a connection before its handshake.
     pub(super) fn new(socket: TcpStream, connection: TlsConnection) -> TlsStream {
         TlsStream {
             socket,
@@ -67,7 +67,8 @@ impl TlsStream {
         !self.is_drained || self.connection.has_input()
     }
 
-    /// Reads what is there; 0 is the end, told or not: a command says how long it is, so none can be cut short.
+    /// Reads the bytes that are there. 0 is the end, whether the client announced it or not: a command says how long it
+    /// is, so none can be cut short unnoticed.
     pub(super) fn read(&mut self, buffer: &mut [u8]) -> io::Result<usize> {
         for _ in 0..MOST_READS {
             match self.open(buffer) {
@@ -85,7 +86,7 @@ impl TlsStream {
         Err(ErrorKind::Interrupted.into())
     }
 
-    /// Opens what came, up to the first record that had records without data before it.
+    /// Opens the records that came, up to the first one that had records without data before it.
     fn open(&mut self, buffer: &mut [u8]) -> io::Result<usize> {
         let mut count = self.connection.open(buffer)?;
         let mut is_last = count == 0;
@@ -98,7 +99,7 @@ impl TlsStream {
         Ok(count)
     }
 
-    /// Reads bytes from the socket, and returns how many; 0 is its end.
+    /// Reads bytes from the socket, and returns how many. 0 is the socket's end.
     fn take(&mut self) -> io::Result<usize> {
         CAME.with_borrow_mut(|room| {
             let count = loop {
@@ -116,7 +117,7 @@ impl TlsStream {
         })
     }
 
-    /// Takes bytes to send, where none wait.
+    /// Takes bytes to send, if none wait.
     pub(super) fn write(&mut self, bytes: &[u8]) -> io::Result<usize> {
         self.flush()?;
         if self.has_unsent() {
@@ -129,7 +130,7 @@ impl TlsStream {
         self.flush().map(|()| count)
     }
 
-    /// Gives the socket what it takes.
+    /// Gives the socket as many bytes as it takes.
     pub(super) fn flush(&mut self) -> io::Result<()> {
         while self.has_unsent() {
             match self.socket.write(self.connection.unsent()) {
@@ -146,7 +147,7 @@ impl TlsStream {
 
 impl Drop for TlsStream {
     fn drop(&mut self) {
-        // The end is told, where the socket takes that.
+        // Tells the client about the end, if the socket takes that.
         self.connection.close();
         let _ = self.flush();
     }

@@ -26,10 +26,10 @@ use std::time::{Duration, Instant};
 const ROOM: usize = 64 << 10;
 /// How many events are taken at once.
 const EVENTS: usize = 256;
-/// How long a thread with commands that wait sleeps, where nobody wakes it: so exact is the time that they wait.
+/// How long a thread with waiting commands sleeps if nobody wakes it. Waiting times are this exact.
 const TICK: Duration = Duration::from_millis(5);
 
-/// How often connections are looked through for those who took too long to show who they are.
+/// How often it looks for connections that took too long to log in.
 const SWEEP: Duration = Duration::from_millis(500);
 
 /// A thread that owns connections.
@@ -43,23 +43,23 @@ pub struct Worker {
     connections: Slab<Connection>,
     /// Connections that have a turn in the next round.
     queue: Vec<usize>,
-    /// Connections whose next command waits for a shard that nobody executes.
+    /// Connections whose next command waits for a shard that no server executes.
     waiting: Vec<usize>,
     /// Connections whose next command isn't looked at until then, each with its number.
     put_off: BinaryHeap<Reverse<(Instant, usize, u64)>>,
-    /// Whether all that is queued waits for shards that other threads have.
+    /// Whether everything in the queue waits for shards that other threads have.
     is_racing: bool,
     changes: u64,
     /// Connections that wait, and whose clients may have left.
     half_closed: HalfClosed,
     busy_poll: BusyPoll,
-    /// When connections were looked through for those who took too long.
+    /// When it last looked for connections that took too long.
     swept: Instant,
     buffer: Box<[u8]>,
 }
 
 impl Worker {
-    /// A thread to be, which polls this, and asks the control there.
+    /// Makes a thread with this poll, which asks this control.
     pub fn new(
         cluster: Arc<Cluster>,
         inlet: Arc<Inlet>,
@@ -88,14 +88,16 @@ impl Worker {
         }
     }
 
-    /// Serves until the cluster stops, and then until what came is answered, but no longer than for its grace.
+    /// Serves until the cluster stops, and then until every request that came is answered, but no longer than the grace
+    /// period.
     pub fn run(mut self) -> io::Result<()> {
         let mut events = Events::with_capacity(EVENTS);
         let mut end = None;
         loop {
             self.wait(&mut events)?;
+            self.inlet.note_turn();
             events.iter().for_each(|it| self.note(it));
-            // Where there is an end, the poll began behind the stop: what came before that it told.
+            // If there is an end, the poll began after the stop, so it told about everything that came before.
             if end.is_some_and(|it| events.is_empty() && self.is_quiet() || Instant::now() >= it) {
                 return Ok(());
             }
@@ -111,7 +113,7 @@ impl Worker {
         }
     }
 
-    /// Waits for events, no longer than until something else is due.
+    /// Waits for events, but no longer than until something else is due.
     fn wait(&mut self, events: &mut Events) -> io::Result<()> {
         if !self.queue.is_empty() {
             if self.is_racing {
@@ -136,7 +138,7 @@ impl Worker {
         Ok(())
     }
 
-    /// How long nothing is due, if anything will be.
+    /// Returns how long nothing is due, if anything will be.
     fn timeout(&self) -> Option<Duration> {
         let sweep = (self.inlet.strangers() > 0).then_some(SWEEP);
         let put_off = self.put_off.peek().map(|it| it.0 .0);
@@ -153,7 +155,7 @@ impl Worker {
         Ok(())
     }
 
-    /// Takes the events that are there, or that come in this time, whatever signals come meanwhile.
+    /// Takes the events that are there, or that come within this time, whatever signals come meanwhile.
     fn look(&mut self, events: &mut Events, timeout: Option<Duration>) -> io::Result<()> {
         loop {
             match self.poll.poll(events, timeout) {
@@ -178,8 +180,8 @@ impl Worker {
         }
     }
 
-    /// Whether the connection there may wait: if its client has left it may not, nor if the client sends no more, and
-    /// many wait already of which that is so.
+    /// Returns whether the connection at this place may wait. It may not if its client has left, or if its client sends
+    /// no more and many such connections wait already.
     fn may_wait(&mut self, place: usize) -> bool {
         let connection = &self.connections[place];
         let (id, may_have_left) = (connection.session.id, connection.may_have_left());
@@ -187,7 +189,7 @@ impl Worker {
         is_there && (!may_have_left || self.half_closed.begin(id, place, Instant::now()))
     }
 
-    /// Closes the connections that have waited for too long behind clients that may have left.
+    /// Closes the connections that have waited too long for clients that may have left.
     fn close_half_closed(&mut self) {
         for place in self.half_closed.due(Instant::now()) {
             self.close(place);
@@ -243,7 +245,7 @@ impl Worker {
         let registry = self.poll.registry();
         registry.register(arrived.stream.socket(), Token(place), interest)?;
         if self.connections.len() == self.connections.capacity() {
-            // A list that grows has twice as much, beside what it had.
+            // A list that grows takes twice as much, beside its old memory.
             let more = 2 * (self.connections.len() + 1) * size_of::<Connection>();
             memory::has_room(more).map_err(|_| ErrorKind::OutOfMemory)?;
         }
@@ -264,7 +266,7 @@ impl Worker {
         Ok(())
     }
 
-    /// The place for the connection of a stranger that came, unless it had to give way on its way here.
+    /// Returns the place for the connection of a stranger, unless it had to give way on its way here.
     fn place_of(&mut self, id: u64) -> Option<usize> {
         if self.inlet.has_door() {
             let place = self.connections.vacant_entry().key();
@@ -277,8 +279,8 @@ impl Worker {
         Some(place)
     }
 
-    /// Has the strangers that came first give way to one more, so that nobody keeps others out by many that say
-    /// nothing: who shows at once who it is has done so before so many others have come.
+    /// Makes the strangers that came first give way to one more, so that nobody can keep others out with many
+    /// connections that say nothing. A client that logs in at once has done so before so many others have come.
     fn make_room(&mut self) {
         while let Some((_, at)) = self.inlet.give_way() {
             match at {
@@ -289,12 +291,12 @@ impl Worker {
         }
     }
 
-    /// Whether clients that have shown who they are have more places than there are.
+    /// Returns whether more clients have logged in than there are places.
     fn has_too_many(&self) -> bool {
         self.cluster.known_clients() > self.cluster.configuration.most_clients
     }
 
-    /// Closes from time to time the connections of those who took too long to show who they are.
+    /// From time to time closes the connections that took too long to log in.
     fn close_strangers(&mut self) {
         if self.inlet.strangers() == 0 || self.swept.elapsed() < SWEEP {
             return;
@@ -310,7 +312,7 @@ impl Worker {
         }
     }
 
-    /// Has the connections go on whose next command was put off for long enough.
+    /// Lets the connections go on whose next command was put off long enough.
     fn look_at_put_off(&mut self) {
         let now = Instant::now();
         while self.put_off.peek().is_some_and(|it| it.0 .0 <= now) {
@@ -333,7 +335,7 @@ impl Worker {
         }
     }
 
-    /// Gives back the passes of servers that went away, and says so.
+    /// Gives back the passes of servers that went away, and notes that.
     fn refresh(&mut self) -> io::Result<()> {
         let version = self.executor.admission().refresh();
         let version = version.map_err(io::Error::other)?;
@@ -341,7 +343,7 @@ impl Worker {
         Ok(())
     }
 
-    /// For how long a command waits: at a stop it is refused, as it won't be done.
+    /// Returns how long a command waits. During a stop it is refused at once, because it won't be done.
     fn most_wait(&self) -> Duration {
         match self.cluster.is_stopping() {
             true => Duration::ZERO,
@@ -349,7 +351,7 @@ impl Worker {
         }
     }
 
-    /// Gives a turn to what waits: to all after a change, and else to those that have waited in vain.
+    /// Gives a turn to waiting connections: to all after a change, otherwise to those that have waited in vain.
     fn look_at_waiting(&mut self) {
         if self.waiting.is_empty() {
             return;
@@ -406,7 +408,7 @@ impl Worker {
         self.inlet.stats().waiting.set(self.waiting.len() as u64);
     }
 
-    /// Gives the connection there a turn, in a round that began then, and counts what it came to.
+    /// Gives the connection at this place a turn, in a round that began then, and counts the result.
     fn turn(&mut self, place: usize, began: Instant) -> Turn {
         let wait = self.most_wait();
         let Some(connection) = self.connections.get_mut(place) else {
@@ -431,7 +433,7 @@ impl Worker {
         if let Some(errors) = connection.take_errors() {
             stats.note_errors(errors);
         }
-        // Who had to show first who it is finds only now that others have all places.
+        // A client that had to log in first finds out only now that others have all places.
         let is_over = becomes_known && self.has_too_many();
         match is_over || turn.waits() && !self.may_wait(place) {
             true => Turn::Over,
@@ -439,7 +441,7 @@ impl Worker {
         }
     }
 
-    /// Where what is owed to the connection there goes.
+    /// Returns the address for the answer that is owed to this connection.
     fn reply_to(&mut self, place: usize) -> ReplyAddress {
         let connection = &mut self.connections[place];
         let to = (place, connection.session.id);
@@ -464,7 +466,7 @@ impl Worker {
         match self.control.try_send(asked(command.command(), reply_to)) {
             Ok(()) => {}
             Err(TrySendError::Full(asked)) => asked.refuse(Refusal::crowded()),
-            // The control ends after all threads that ask it, or by a fault of its own.
+            // The control ends after all threads that ask it, or by its own fault.
             Err(error @ TrySendError::Disconnected(_)) => {
                 tracing::error!(%error, "the control is gone");
                 self.close(place);
@@ -472,7 +474,7 @@ impl Worker {
         }
     }
 
-    /// Closes the connection there, and says that there is no place for it.
+    /// Closes the connection at this place, and tells the client that there is no place for it.
     fn refuse(&mut self, place: usize) {
         self.connections[place].stream().refuse();
         self.close(place);
@@ -484,15 +486,15 @@ impl Worker {
         if connection.stranger_since().is_some() {
             self.inlet.note_stranger_less(connection.session.id);
         }
-        // The drop closes it, by which it is deregistered too.
+        // Dropping it closes and deregisters it.
         let socket = connection.stream().socket();
         let _ = self.poll.registry().deregister(socket);
         self.inlet.stats().open.note_less();
     }
 
-    /// Whether nothing is under way, and others brought nothing and won't bring connections.
+    /// Returns whether nothing is under way, and other threads brought nothing and won't bring connections.
     fn is_quiet(&self) -> bool {
-        // What was brought before they ended is seen behind that.
+        // This must be read first. Then everything that was brought before they ended is seen below.
         let is_coming = self.cluster.is_accepting() || self.inlet.has_open_door();
         let is_idle = !is_coming && self.inlet.is_empty();
         let is_idle = is_idle && self.queue.is_empty();
@@ -513,22 +515,22 @@ mod tests {
     use std::thread;
     use tokio::net::TcpSocket;
 
-    /// So many texts of so many bytes are a reply of which a socket with this room takes a part.
+    /// So many texts of so many bytes make a reply of which a socket with this room takes only a part.
     const TEXTS: usize = 15;
     const TEXT: usize = 60_000;
     const SOCKET_ROOM: u32 = 64 << 10;
-    /// What a slow client is answered behind these.
+    /// The answers to a slow client behind these.
     const BEHIND: &str =
         "-SHARDPAUSED shard 1 is paused: SM RESUME 1 has its owner execute again\r\n+PONG\r\n";
 
-    /// A thread whose commands wait so long, in a cluster of one server, which owns both shards.
+    /// Makes a thread whose commands wait so long, in a cluster of one server, which owns both shards.
     fn begun(wait: Duration) -> (Arc<Cluster>, Worker) {
         // Nobody asks the control.
         let (cluster, worker, _) = begun_below(wait, 0);
         (cluster, worker)
     }
 
-    /// The same where so many commands wait for the control at most, which takes none.
+    /// Does the same. At most so many commands wait for the control, which takes none.
     fn begun_below(wait: Duration, most: usize) -> (Arc<Cluster>, Worker, Receiver<Asked>) {
         let rule = Rule::Bounds(vec![Vec::new(), b"m".to_vec()]);
         let keyspace = Keyspace::new(&rule).unwrap();
@@ -550,7 +552,7 @@ mod tests {
         (cluster, worker, asked)
     }
 
-    /// Clients whose connections are brought to this inlet.
+    /// Makes clients whose connections are brought to this inlet.
     fn clients(inlet: &Inlet, count: usize) -> Vec<Client> {
         let listener = TcpListener::bind("127.0.0.1:0").unwrap();
         let address = listener.local_addr().unwrap();
@@ -568,7 +570,7 @@ mod tests {
         (0..count).map(client).collect()
     }
 
-    /// A client that hasn't read yet what it is answered, and of which a command waits for a paused shard.
+    /// Makes a client that hasn't read its answers yet, and whose command waits for a paused shard.
     fn slow(cluster: &Cluster, inlet: &Inlet) -> Client {
         cluster.board().control().pause(1).unwrap();
         let mut client = clients(inlet, 1).remove(0);
@@ -585,7 +587,7 @@ mod tests {
         client
     }
 
-    /// How many bytes such a client is answered.
+    /// Returns how many bytes such a client's answers have.
     fn slow_bytes() -> usize {
         let reply = format!("${TEXT}\r\n").len() + TEXT + 2;
         format!("*{TEXTS}\r\n").len() + TEXTS * reply + BEHIND.len()

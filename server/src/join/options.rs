@@ -1,18 +1,18 @@
-//! The part of the command line that is about several processes.
+//! The options for a cluster of several processes.
 use crate::run::BoxError;
 use clap::{Args, ValueEnum};
 use durkenzo_driver::{Addresses, Reads};
-use durkenzo_store::Access;
+use durkenzo_store::{Access, KeyPrefix};
 use std::fs;
 use std::net::SocketAddr;
 use std::path::PathBuf;
 
 const CLUSTER: &str = "Cluster";
 
-/// How this process is a server of a cluster of several.
+/// How this process is a server of a cluster of several processes.
 #[derive(Args, Clone, Debug)]
 pub struct JoinOptions {
-    /// Members of etcd, by which processes that name the same are one cluster, of which each runs one server [default:
+    /// Members of etcd; processes that name the same members are one cluster, in which each runs one server [default:
     /// none, all servers are in this process]
     #[arg(
         long,
@@ -23,6 +23,10 @@ pub struct JoinOptions {
         help_heading = CLUSTER
     )]
     pub etcd: Vec<String>,
+
+    /// What the keys of this cluster begin with, in an etcd that others use too, as /orders/ [default: nothing]
+    #[arg(long, value_name = "/NAME/", requires = "etcd", help_heading = CLUSTER)]
+    pub prefix: Option<KeyPrefix>,
 
     /// The server that this process runs, 1 to the number of servers
     #[arg(
@@ -44,15 +48,15 @@ pub struct JoinOptions {
     )]
     pub listen: SocketAddr,
 
-    /// How these reach it, where that is another way [default: as --listen]
+    /// How other processes reach this one, if not at --listen [default: as --listen]
     #[arg(long, value_name = "ADDRESS:PORT", requires = "etcd", help_heading = CLUSTER)]
     pub advertise: Option<String>,
 
-    /// How clients reach it, as SM ROUTES tells [default: the address of --advertise, and --port]
+    /// How clients reach it, as SM ROUTES shows [default: the address of --advertise, and --port]
     #[arg(long, value_name = "ADDRESS:PORT", requires = "etcd", help_heading = CLUSTER)]
     pub advertise_clients: Option<String>,
 
-    /// How long after a process was heard of last its server has failed
+    /// How long after the last sign of life of a process its server counts as failed
     #[arg(
         long,
         value_name = "SECONDS",
@@ -63,8 +67,8 @@ pub struct JoinOptions {
     )]
     pub lease: u64,
 
-    /// How reads that come alone are answered: by a transaction, or while the lease is kept from memory, which may miss
-    /// what other servers wrote in the last --lease seconds, and in a paused guest more until its clock is set
+    /// How single reads are answered: by a transaction, or while the lease is kept from memory, which may miss writes
+    /// of other servers in the last --lease seconds, and in a paused guest older ones, too, until its clock is set
     #[arg(
         long,
         value_name = "exact|lease",
@@ -76,7 +80,7 @@ pub struct JoinOptions {
     )]
     pub reads: ReadsOption,
 
-    /// The user's name, where etcd asks for one [default: none]
+    /// The user's name, if etcd asks for one [default: none]
     #[arg(long, value_name = "NAME", requires_all = ["etcd", "etcd_password_file"], help_heading = CLUSTER)]
     pub etcd_user: Option<String>,
 
@@ -84,15 +88,15 @@ pub struct JoinOptions {
     #[arg(long, value_name = "FILE", requires = "etcd_user", help_heading = CLUSTER)]
     pub etcd_password_file: Option<PathBuf>,
 
-    /// File in PEM with who vouches for etcd's members [default: the system's]
+    /// PEM file with the authorities of etcd's members [default: the system's]
     #[arg(long, value_name = "FILE", requires = "etcd", help_heading = CLUSTER)]
     pub etcd_ca: Option<PathBuf>,
 
-    /// File in PEM with this process's certificate, where etcd asks for one [default: none]
+    /// PEM file with this process's certificate, if etcd asks for one [default: none]
     #[arg(long, value_name = "FILE", requires = "etcd_key", help_heading = CLUSTER)]
     pub etcd_cert: Option<PathBuf>,
 
-    /// File in PEM with its key
+    /// PEM file with its key
     #[arg(long, value_name = "FILE", requires = "etcd_cert", help_heading = CLUSTER)]
     pub etcd_key: Option<PathBuf>,
 }
@@ -102,7 +106,7 @@ pub struct JoinOptions {
 pub enum ReadsOption {
     /// By a transaction
     Exact,
-    /// From memory, while the lease is kept
+    /// From memory, as long as the lease is kept
     Lease,
 }
 
@@ -116,16 +120,21 @@ impl From<ReadsOption> for Reads {
 }
 
 impl JoinOptions {
-    /// The server of a cluster that this process runs, where it is one of several.
+    /// Returns the server that this process runs, if the cluster has several processes.
     pub fn server(&self) -> Option<u16> {
         self.name.filter(|_| !self.etcd.is_empty())
     }
 
-    /// How etcd is reached.
+    /// Returns what the keys of this cluster begin with.
+    pub fn key_prefix(&self) -> KeyPrefix {
+        self.prefix.clone().unwrap_or_default()
+    }
+
+    /// Returns the access to etcd.
     ///
     /// # Errors
     ///
-    /// Where the file with the password can't be read, or has none.
+    /// If the file with the password can't be read, or has no password.
     pub fn access(&self) -> Result<Access, BoxError> {
         let user = match (&self.etcd_user, &self.etcd_password_file) {
             (Some(name), Some(file)) => {
@@ -145,7 +154,7 @@ impl JoinOptions {
         })
     }
 
-    /// How this process is reached, which listens there for other processes and for clients.
+    /// Returns the addresses of this process, which listens at these for other processes and for clients.
     pub fn addresses(&self, listens: SocketAddr, clients: SocketAddr) -> Addresses {
         let servers = match &self.advertise {
             Some(advertised) => advertised.clone(),
@@ -191,6 +200,8 @@ mod tests {
             ("--log-batches 9", "--data"),
             ("--reads lease", "--etcd"),
             ("--data x --reads lease", "--etcd"),
+            ("--prefix /x/", "--etcd"),
+            ("--etcd http://a:1 --name 1 --prefix x", "--prefix"),
         ] {
             let told = parsed(words).unwrap_err();
             assert!(told.contains(named), "{words}: {told}");

@@ -1,9 +1,9 @@
 use std::collections::TryReserveError;
 
-/// How many bytes of lines wait at most: some 2,000 lines.
+/// The most bytes of lines that wait, which is about 2,000 lines.
 const MOST_BYTES: usize = 256 << 10;
 
-/// Lines, one behind the other, and how many more there were for which there was no room.
+/// Lines, one behind the other, and how many more were dropped because there was no room.
 #[derive(Debug)]
 pub(super) struct Lines {
     bytes: Vec<u8>,
@@ -12,7 +12,7 @@ pub(super) struct Lines {
 }
 
 impl Lines {
-    /// No lines, and the memory of as many as may wait: none is asked for when they come.
+    /// Makes an empty list, with memory for as many lines as may wait. No memory is needed when they come.
     pub(super) fn reserved() -> Result<Lines, TryReserveError> {
         let mut bytes = Vec::new();
         bytes.try_reserve_exact(MOST_BYTES)?;
@@ -23,8 +23,8 @@ impl Lines {
         })
     }
 
-    /// Takes a line if there is room; whether there was. Once one was dropped all later ones are, so that all that is
-    /// missing is in one place.
+    /// Takes a line if there is room, and returns whether there was. Once a line was dropped, all later ones are, so
+    /// that all missing lines are in one place.
     pub(super) fn push(&mut self, line: &[u8]) -> bool {
         let room = self.bytes.capacity() - self.bytes.len();
         if self.dropped > 0 || line.len() > room {
@@ -36,22 +36,22 @@ impl Lines {
         true
     }
 
-    /// The bytes of all lines.
+    /// Returns the bytes of all lines.
     pub(super) fn bytes(&self) -> &[u8] {
         &self.bytes
     }
 
-    /// How many lines there are.
+    /// Returns how many lines there are.
     pub(super) fn count(&self) -> u64 {
         self.count
     }
 
-    /// How many lines were dropped behind them.
+    /// Returns how many lines were dropped behind them.
     pub(super) fn dropped(&self) -> u64 {
         self.dropped
     }
 
-    /// Whether there is nothing to write, nor to say.
+    /// Returns whether there is nothing to write, and nothing to report.
     pub(super) fn is_empty(&self) -> bool {
         self.count == 0 && self.dropped == 0
     }

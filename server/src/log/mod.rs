@@ -1,5 +1,5 @@
-//! The log, which goes to standard error. Nobody waits until that is read: lines wait in a queue with a bound, and one
-//! thread writes them.
+//! The log, which goes to standard error. Nobody waits for a slow reader: lines wait in a bounded queue, and one thread
+//! writes them.
 mod lines;
 mod queue;
 mod stderr;
@@ -19,24 +19,24 @@ use tracing_subscriber::fmt::MakeWriter;
 use tracing_subscriber::util::SubscriberInitExt;
 use tracing_subscriber::EnvFilter;
 
-/// The lines that wait: a process has one log, as it has one standard error.
+/// The waiting lines. A process has one log, because it has one standard error.
 static QUEUE: Queue = Queue::new();
 
-/// How many lines were dropped because nobody read those before them, or couldn't be written.
+/// Returns how many lines were dropped, because earlier ones weren't read or couldn't be written.
 pub fn dropped() -> u64 {
     QUEUE.dropped()
 }
 
-/// Says this line, whatever is logged.
+/// Writes this line, whatever the log's level.
 pub fn say(line: &str) {
     QUEUE.push(format!("{line}\n").as_bytes());
 }
 
-/// Has what is logged, and how a thread panics, go to standard error.
+/// Sends log lines and panic messages to standard error.
 ///
 /// # Errors
 ///
-/// The filter isn't one, or there is no memory or no thread for the log.
+/// If the filter is malformed, or there is no memory or no thread for the log.
 pub fn begin(options: &Options) -> Result<(), BoxError> {
     let (memory, spare) = (Lines::reserved()?, Lines::reserved()?);
     let format = options.log_format;
@@ -50,7 +50,7 @@ pub fn begin(options: &Options) -> Result<(), BoxError> {
     Ok(())
 }
 
-/// Writes what waits of the log when it goes out of scope: at the end of the program, however that comes.
+/// Writes the waiting lines of the log when it goes out of scope: at the end of the program, however it ends.
 #[derive(Debug)]
 pub struct WrittenAtEnd;
 
@@ -60,7 +60,7 @@ impl Drop for WrittenAtEnd {
     }
 }
 
-/// What writes lines of this format.
+/// Makes the subscriber that writes lines of this format.
 fn subscriber<W>(format: LogFormat, filter: EnvFilter, writer: W) -> Dispatch
 where
     W: for<'a> MakeWriter<'a> + Send + Sync + 'static,
@@ -76,7 +76,7 @@ where
     }
 }
 
-/// Writes that so many lines are missing, whatever else is logged.
+/// Writes that so many lines are missing, whatever the log's level.
 fn say_missing(format: LogFormat, lines: u64) {
     let log = subscriber(format, EnvFilter::new("warn"), || Stderr);
     with_default(&log, || {
@@ -87,7 +87,7 @@ fn say_missing(format: LogFormat, lines: u64) {
     });
 }
 
-/// Returns what the standard library would say of a panic.
+/// Returns the text that the standard library writes about a panic.
 fn told_of(panic: &PanicHookInfo<'_>) -> String {
     let thread = thread::current();
     let told = format!("thread '{}' {panic}", thread.name().unwrap_or("<unnamed>"));

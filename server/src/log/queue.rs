@@ -5,20 +5,21 @@ use std::mem;
 use std::sync::{Condvar, Mutex, MutexGuard, PoisonError};
 use std::time::Duration;
 
-/// How long the program's end waits for the lines that aren't written yet.
+/// How long the program's end waits for lines that aren't written yet.
 const END_WAITS: Duration = Duration::from_secs(1);
 
-/// Lines that one thread writes. Whoever has a line never waits: if there is no room it is dropped, and counted.
+/// Lines that one thread writes. A thread that logs a line never waits: if there is no room, the line is dropped and
+/// counted.
 #[derive(Debug)]
 pub(super) struct Queue {
     state: Mutex<State>,
-    /// There are lines to write, or all were written.
+    /// Tells that there are lines to write, or that all were written.
     changed: Condvar,
 }
 
 #[derive(Debug)]
 struct State {
-    /// The lines that wait; none before a thread writes them.
+    /// The waiting lines. There are none before a thread writes them.
     waiting: Option<Lines>,
     is_writing: bool,
     /// How many lines were dropped, or couldn't be written, so far.
@@ -32,7 +33,7 @@ impl State {
 }
 
 impl Queue {
-    /// A queue that isn't open yet: each line is written at once.
+    /// Makes a queue that isn't open yet: each line is written at once.
     pub(super) const fn new() -> Queue {
         Queue {
             state: Mutex::new(State {
@@ -48,7 +49,7 @@ impl Queue {
         self.state.lock().unwrap_or_else(PoisonError::into_inner)
     }
 
-    /// Has lines wait in this memory from now on. A thread must write them.
+    /// Makes lines wait in this memory from now on. A thread must write them.
     pub(super) fn open(&self, memory: Lines) {
         self.state().waiting = Some(memory);
     }
@@ -70,7 +71,7 @@ impl Queue {
         self.state().dropped
     }
 
-    /// Writes the lines as they come, for ever. Behind each gap it says how many lines are missing there.
+    /// Writes the lines as they come, forever. Behind each gap it writes how many lines are missing there.
     pub(super) fn write(&self, mut memory: Lines, say_missing: impl Fn(u64)) {
         loop {
             let idle = self.changed.wait_while(self.state(), |it| it.is_empty());
@@ -93,7 +94,7 @@ impl Queue {
         }
     }
 
-    /// Waits until all lines are written, but not for long: maybe nobody reads them.
+    /// Waits until all lines are written, but not for long, because perhaps nobody reads them.
     pub(super) fn end(&self) {
         let busy = |it: &mut State| it.is_writing || !it.is_empty();
         drop(

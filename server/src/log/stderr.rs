@@ -3,15 +3,16 @@ use std::io;
 use std::thread;
 use std::time::Duration;
 
-/// How long is waited where the reader takes nothing now, and writing doesn't wait for it.
+/// How long it pauses if the reader takes nothing now, and standard error is nonblocking.
 const PAUSE: Duration = Duration::from_millis(10);
 
-/// Standard error, without the standard library's lock: whoever writes may wait for the reader, and holds up no other.
+/// Standard error, without the standard library's lock. A thread that writes may wait for the reader, and must not hold
+/// up other threads.
 #[derive(Clone, Copy, Debug)]
 pub(super) struct Stderr;
 
 impl Stderr {
-    /// Writes all of it, and waits for the reader; whether that was done.
+    /// Writes all bytes, and waits for the reader. Returns whether it succeeded.
     pub(super) fn put(self, mut bytes: &[u8]) -> bool {
         while !bytes.is_empty() {
             match rustix::io::write(io::stderr(), bytes) {
@@ -27,7 +28,7 @@ impl Stderr {
 }
 
 impl io::Write for Stderr {
-    /// Nobody is told where it can't be written: that would be told here.
+    /// If standard error can't be written, there is nobody to tell.
     fn write(&mut self, bytes: &[u8]) -> io::Result<usize> {
         self.put(bytes);
         Ok(bytes.len())

@@ -1,4 +1,4 @@
-//! The server's only unsafe code: it allocates, and asks the C library how much it has.
+//! The server's only unsafe code: it allocates, and asks the C library how much memory it has.
 #![allow(unsafe_code)]
 use super::granules::{Granules, COUNT, GRANULE};
 use super::reserve::is_fallible;
@@ -9,39 +9,39 @@ use std::ptr;
 use std::sync::atomic::{AtomicBool, Ordering};
 use std::sync::{Mutex, MutexGuard, PoisonError};
 
-/// How many bytes are kept back. Until they are needed the system gives no memory for them.
+/// How many bytes are reserved. The system gives no memory for them until they are needed.
 const KEPT: usize = COUNT * GRANULE;
 
-/// The system's allocator. If that refuses memory, it comes from room that is kept back: half of it is for all, and
-/// half for what can't be refused.
+/// The system's allocator with a reserve. If the system refuses memory, it comes from the reserve: half of it is for
+/// everybody, and half for allocations that can't be refused.
 ///
-/// The proved libraries take memory by themselves, and never have any of that room.
+/// The proved libraries allocate through another allocator, and get nothing from the reserve.
 #[derive(Debug)]
 pub struct Allocator;
 
 #[repr(align(256))]
 struct ReservedRoom(UnsafeCell<[MaybeUninit<u8>; KEPT]>);
 
-// SAFETY: each byte is of who took its granule, and of nobody else.
+// SAFETY: each byte belongs to the owner of its granule, and to nobody else.
 unsafe impl Sync for ReservedRoom {}
 
 static ROOM: ReservedRoom = ReservedRoom(UnsafeCell::new([MaybeUninit::uninit(); KEPT]));
 static GRANULES: Mutex<Granules> = Mutex::new(Granules::new());
-/// Whether less than half of the room is left.
+/// Whether less than half of the reserve is left.
 static IS_LOW: AtomicBool = AtomicBool::new(false);
 
 fn granules() -> MutexGuard<'static, Granules> {
     GRANULES.lock().unwrap_or_else(PoisonError::into_inner)
 }
 
-/// Where the place is in the room, if it is there.
+/// Returns the offset of the place in the reserve, if it is there.
 #[inline]
 fn within(place: *mut u8) -> Option<usize> {
     let at = (place as usize).wrapping_sub(ROOM.0.get() as usize);
     (at < KEPT).then_some(at)
 }
 
-/// A place in the room, of which who can be refused has half at most.
+/// Returns a place in the reserve. Allocations that can be refused get at most half of it.
 #[cold]
 fn kept(layout: Layout) -> *mut u8 {
     let mut granules = granules();
@@ -52,7 +52,7 @@ fn kept(layout: Layout) -> *mut u8 {
     let taken = granules.take(layout.size());
     IS_LOW.store(granules.are_few(0), Ordering::Relaxed);
     match taken {
-        // The granules lie within the room.
+        // The granules lie within the reserve.
         Some(at) => ROOM.0.get().cast::<u8>().wrapping_add(at),
         None => ptr::null_mut(),
     }
@@ -72,12 +72,12 @@ fn shrink(at: usize, size: usize, smaller: usize) {
     IS_LOW.store(granules.are_few(0), Ordering::Relaxed);
 }
 
-/// Whether less than half of the room that is kept back is left.
+/// Returns whether less than half of the reserve is left.
 pub(super) fn is_low() -> bool {
     IS_LOW.load(Ordering::Relaxed)
 }
 
-// SAFETY: each place is the system's, or one of the room's granules, which are of one place at a time.
+// SAFETY: each place is the system's, or consists of granules of the reserve, which belong to one place at a time.
 unsafe impl GlobalAlloc for Allocator {
     #[inline]
     unsafe fn alloc(&self, layout: Layout) -> *mut u8 {
@@ -123,7 +123,7 @@ unsafe impl GlobalAlloc for Allocator {
             }
             Some(_) => {}
         }
-        // A layout of this size was asked for, so it is one.
+        // A layout with this size was asked for, so it is valid.
         let moved = self.alloc(Layout::from_size_align_unchecked(size, layout.align()));
         if !moved.is_null() {
             place.copy_to_nonoverlapping(moved, layout.size().min(size));
@@ -133,25 +133,25 @@ unsafe impl GlobalAlloc for Allocator {
     }
 }
 
-/// The bytes that are in use of what the C library has.
+/// Returns how many bytes of the C library's memory are in use.
 pub(super) fn used() -> u64 {
     // SAFETY: it only counts.
     let told = unsafe { libc::mallinfo2() };
     (told.uordblks + told.hblkhd) as u64
 }
 
-/// Has all threads take memory from one place, so that what one has freed is there for others, and much of it from the
-/// system, so that it is there for all else.
+/// Makes all threads allocate from one arena, so that memory that one thread frees is there for the others. Has the C
+/// library take large pieces from the system, so that they can be returned to it.
 pub(super) fn share() {
-    // SAFETY: it only sets numbers.
+    // SAFETY: it only sets parameters.
     unsafe {
         libc::mallopt(libc::M_ARENA_MAX, 1);
         libc::mallopt(libc::M_MMAP_THRESHOLD, 1 << 20);
     }
 }
 
-/// Gives the system what is free of what the C library has.
+/// Returns the C library's free memory to the system.
 pub(super) fn trim() {
-    // SAFETY: no place that is in use changes.
+    // SAFETY: no place in use changes.
     unsafe { libc::malloc_trim(0) };
 }

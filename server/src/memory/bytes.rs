@@ -2,7 +2,7 @@ use std::error::Error;
 use std::fmt;
 use std::str::FromStr;
 
-/// A number of bytes, as Redis' configuration writes it: `100mb`, say.
+/// A number of bytes, as Redis' configuration writes it, for instance `100mb`.
 #[derive(Clone, Copy, Debug, PartialEq, Eq)]
 pub struct Bytes(pub u64);
 
@@ -18,7 +18,7 @@ const UNITS: [(&str, u64); 8] = [
     ("gb", 1 << 30),
 ];
 
-/// A text is no number of bytes.
+/// The text isn't a number of bytes.
 #[derive(Clone, Copy, Debug, PartialEq, Eq)]
 pub struct NoBytes;
 

@@ -3,33 +3,33 @@ use std::sync::atomic::{AtomicBool, AtomicU64, Ordering};
 use std::sync::{Mutex, TryLockError};
 use std::time::{Duration, Instant};
 
-/// How much of the process' memory may be in use before commands are refused that may have data take more.
+/// How much of the process' memory may be in use before commands are refused whose data may take more.
 pub static CEILING: Ceiling = Ceiling::new();
 
-/// Of the bytes that are left, one part of so many may come before it is looked again; and at least so many, and one
-/// part of so many of all.
+/// The next check comes after one part in so many of the bytes that are left; but not before this many bytes, and not
+/// before one part in so many of all.
 const OF_LEFT: u64 = 8;
 const LEAST_STEP: u64 = 64 << 10;
 const OF_ALL: u64 = 1_024;
-/// How soon it is looked again after commands were refused, at the earliest.
+/// The least time before the next check after commands were refused.
 const PAUSE: Duration = Duration::from_millis(10);
-/// A look that took long is followed by so many times as long without one, but by no more than this; and it is looked
-/// sooner once so many times as much came as was to come before the next look.
+/// A check that took long is followed by a pause of so many times its length, but of no more than this. If so many
+/// times the bytes came that were allowed before the next check, it is checked sooner.
 const REST: u32 = 20;
 const LONGEST_REST: Duration = Duration::from_millis(100);
 const MUCH: u64 = 4;
 
-/// How much memory may be in use, and whether more is. It is looked once so much has come from clients, or was made of
-/// less by their commands, that more could be, and not at each command.
+/// How much memory may be in use, and whether more is. The process' memory isn't measured at each command. It is
+/// measured once clients have sent so much, or commands have made so much of less, that the bound could be exceeded.
 #[derive(Debug)]
 pub struct Ceiling {
-    /// How many bytes may be in use; 0 is any number.
+    /// How many bytes may be in use; 0 means any number.
     most: AtomicU64,
     is_passed: AtomicBool,
-    /// How many bytes came since the last look, and at how many it is looked again.
+    /// How many bytes came since the last check, and after how many the next check is due.
     came: AtomicU64,
     step: AtomicU64,
-    /// When it is looked again at the earliest.
+    /// The earliest time of the next check.
     earliest: Mutex<Option<Instant>>,
 }
 
@@ -44,19 +44,19 @@ impl Ceiling {
         }
     }
 
-    /// Sets how many bytes may be in use; 0 is any number.
+    /// Sets how many bytes may be in use; 0 means any number.
     pub fn set(&self, most: u64) {
         self.most.store(most, Ordering::Relaxed);
         self.look();
     }
 
-    /// How many bytes may be in use; 0 is any number.
+    /// Returns how many bytes may be in use; 0 means any number.
     pub fn most(&self) -> u64 {
         self.most.load(Ordering::Relaxed)
     }
 
     /// Notes that so many bytes came from a client, by which data may grow; or that a command made data grow by so many
-    /// that didn't come.
+    /// bytes that the client didn't send.
     #[inline]
     pub fn note_came(&self, bytes: usize) {
         if self.most() == 0 {
@@ -68,13 +68,13 @@ impl Ceiling {
         }
     }
 
-    /// Whether more is in use than may be. It is looked again then, as data may have been deleted.
+    /// Returns whether more is in use than allowed. If so, it measures again, because data may have been deleted.
     #[inline]
     pub fn is_passed(&self) -> bool {
         self.is_passed.load(Ordering::Relaxed) && self.look()
     }
 
-    /// Looks whether more is in use than may be, unless it was looked just before.
+    /// Measures whether more is in use than allowed, unless it has just been measured.
     #[cold]
     pub fn look(&self) -> bool {
         let most = self.most();
@@ -83,7 +83,7 @@ impl Ceiling {
             Err(TryLockError::Poisoned(it)) => Some(it.into_inner()),
             Ok(it) => Some(it),
         };
-        // Another thread looks, or has just looked.
+        // Another thread measures, or has just measured.
         let Some(mut earliest) = earliest else {
             return self.is_passed.load(Ordering::Relaxed);
         };

@@ -1,16 +1,16 @@
-/// How many bytes a granule has.
+/// The size of a granule in bytes.
 pub(super) const GRANULE: usize = 256;
-/// How many there are.
+/// The number of granules.
 pub(super) const COUNT: usize = 32_768;
 
-/// Which granules of a room are taken.
+/// The granules of a room, each taken or free.
 pub(super) struct Granules {
     are_taken: [bool; COUNT],
     taken: usize,
 }
 
 impl Granules {
-    /// All are free.
+    /// Makes a room in which all granules are free.
     pub(super) const fn new() -> Granules {
         Granules {
             are_taken: [false; COUNT],
@@ -18,8 +18,8 @@ impl Granules {
         }
     }
 
-    /// Takes the first free granules that lie side by side and have room for so many bytes; returns where they begin,
-    /// in bytes from the front of the room.
+    /// Takes the first free granules that are adjacent and have room for so many bytes. Returns where they begin, in
+    /// bytes from the start of the room.
     pub(super) fn take(&mut self, bytes: usize) -> Option<usize> {
         let (count, mut free) = (count_of(bytes), 0);
         let is_last = |is_taken: &bool| {
@@ -33,14 +33,14 @@ impl Granules {
         Some(first * GRANULE)
     }
 
-    /// Frees the granules that were taken there for so many bytes.
+    /// Frees the granules that were taken at this place for so many bytes.
     pub(super) fn give_back(&mut self, at: usize, bytes: usize) {
         let (first, count) = (at / GRANULE, count_of(bytes));
         self.are_taken[first..first + count].fill(false);
         self.taken -= count;
     }
 
-    /// Frees those that were taken there for so many bytes and that a smaller number doesn't need.
+    /// Frees the granules that were taken at this place for so many bytes and that a smaller size doesn't need.
     pub(super) fn shrink(&mut self, at: usize, bytes: usize, smaller: usize) {
         let kept = count_of(smaller) * GRANULE;
         if kept < bytes {
@@ -48,13 +48,13 @@ impl Granules {
         }
     }
 
-    /// Whether more than half are taken, or would be with so many bytes more.
+    /// Returns whether more than half of the granules are taken, or would be with so many bytes more.
     pub(super) fn are_few(&self, bytes: usize) -> bool {
         self.taken + count_of(bytes) > COUNT / 2
     }
 }
 
-/// How many granules have room for so many bytes.
+/// Returns how many granules so many bytes take.
 fn count_of(bytes: usize) -> usize {
     bytes.div_ceil(GRANULE).max(1)
 }

@@ -1,10 +1,10 @@
-//! The memory of the process: how much of it is used, how much may be, and what becomes of it if the system refuses
-//! more.
+//! The memory of the process: how much of it is used, how much may be used, and how the process goes on if the system
+//! refuses more.
 //!
-//! Nothing that a command does with data in memory ends the process then; over a store, which takes memory by itself,
-//! that is only made unlikely. What may be large is reserved by [`reserve`], and the command is refused if that fails.
-//! What is small, and can't be refused, comes from [room that is kept back](Allocator). What frees memory once it has
-//! some has [spare](with_spare).
+//! No command on data in memory ends the process if memory is refused. Over a store that is only made unlikely, because
+//! the store allocates by itself. Memory that may be large is reserved with [`reserve`], and the command is refused if
+//! that fails. Small allocations, which can't be refused, come from [a reserve](Allocator). Code that frees memory but
+//! needs some for that has [spare](with_spare) memory.
 mod allocator;
 mod bytes;
 mod ceiling;
@@ -20,8 +20,8 @@ pub use reserve::{
 };
 pub use trimmer::Trimmer;
 
-/// Prepares for a system that may refuse memory, before there are threads: what one thread frees then others can have,
-/// for which they wait longer for each other.
+/// Prepares for a system that may refuse memory. It must be called before there are threads. Then memory that one
+/// thread frees is there for the others, but threads wait longer for each other.
 pub fn prepare() {
     if reserve::may_be_refused() {
         allocator::share();
@@ -29,13 +29,13 @@ pub fn prepare() {
     }
 }
 
-/// The bytes that the process has in use, for data and all else. To count them takes some microseconds, and more if
-/// much memory is free in many pieces.
+/// Returns how many bytes the process uses, for data and everything else. Counting them takes some microseconds, and
+/// more if much free memory is in many pieces.
 pub fn used() -> u64 {
     allocator::used()
 }
 
-/// The bytes of memory that the process has, in use or not.
+/// Returns how many bytes of memory the process has, in use or not.
 pub fn resident() -> u64 {
     let pages = std::fs::read_to_string("/proc/self/statm").unwrap_or_default();
     let pages = pages

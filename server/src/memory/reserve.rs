@@ -3,11 +3,11 @@ use rustix::process::{getrlimit, Resource};
 use std::cell::Cell;
 use std::sync::{LazyLock, Mutex, PoisonError};
 
-/// Up to so many bytes of one thing can't be refused, as long as there is enough of the room that is kept back.
+/// An allocation of up to so many bytes can't be refused, as long as there is enough of the reserve.
 const SMALL: usize = 4 << 10;
 
 thread_local! {
-    /// Whether this thread can be refused what it allocates now.
+    /// Whether the present allocations of this thread can be refused.
     static IS_FALLIBLE: Cell<bool> = const { Cell::new(false) };
 }
 
@@ -15,15 +15,15 @@ thread_local! {
 #[derive(Clone, Copy, Debug, PartialEq, Eq)]
 pub struct NoRoom;
 
-/// Whether what this thread allocates now can be refused, so that half of the room that is kept back isn't for it.
+/// Returns whether the present allocations of this thread can be refused. Then half of the reserve isn't for them.
 pub(super) fn is_fallible() -> bool {
     IS_FALLIBLE.get()
 }
 
-/// Does what can be refused all that it allocates.
+/// Runs work of which every allocation can be refused.
 #[inline]
 pub fn fallibly<R>(work: impl FnOnce() -> R) -> R {
-    /// Ends it also if the work panics.
+    /// Ends this also if the work panics.
     struct Ends(bool);
 
     impl Drop for Ends {
@@ -36,7 +36,7 @@ pub fn fallibly<R>(work: impl FnOnce() -> R) -> R {
     work()
 }
 
-/// Has the list have room for so many more; or changes nothing, where memory is refused.
+/// Makes room in the list for so many more. If memory is refused, changes nothing.
 pub fn reserve<T>(list: &mut Vec<T>, more: usize) -> Result<(), NoRoom> {
     let length = list.len().saturating_add(more);
     if length <= list.capacity() {
@@ -46,7 +46,7 @@ pub fn reserve<T>(list: &mut Vec<T>, more: usize) -> Result<(), NoRoom> {
         list.reserve(more);
         return Ok(());
     }
-    // It grows to twice as much if there is that, and else by no more than it has to.
+    // It doubles its room if there is memory for that. Otherwise it grows by no more than it must.
     let reserved = fallibly(|| {
         list.try_reserve(more)
             .or_else(|_| list.try_reserve_exact(more))
@@ -54,14 +54,14 @@ pub fn reserve<T>(list: &mut Vec<T>, more: usize) -> Result<(), NoRoom> {
     reserved.map_err(|_| NoRoom)
 }
 
-/// Adds the bytes; or changes nothing, where memory is refused.
+/// Appends the bytes. If memory is refused, changes nothing.
 pub fn append(list: &mut Vec<u8>, bytes: &[u8]) -> Result<(), NoRoom> {
     reserve(list, bytes.len())?;
     list.extend_from_slice(bytes);
     Ok(())
 }
 
-/// The same of bytes that nobody sends again: they come from the room that is kept back, if there is enough of it.
+/// Does the same for bytes that nobody sends again. They come from the reserve, if there is enough of it.
 pub fn append_surely(list: &mut Vec<u8>, bytes: &[u8]) -> Result<(), NoRoom> {
     match append(list, bytes) {
         Err(NoRoom) if is_low() => Err(NoRoom),
@@ -73,15 +73,15 @@ pub fn append_surely(list: &mut Vec<u8>, bytes: &[u8]) -> Result<(), NoRoom> {
     }
 }
 
-/// How many bytes a piece has of what lies in many.
+/// How many bytes each piece has, of memory in many pieces.
 const PIECE: usize = 256 << 10;
-/// How many bytes are there for who frees more by them.
+/// How many bytes are spare for code that frees more by them.
 const SPARE: usize = 8 << 20;
 
-/// The room for who frees more by it.
+/// The spare memory for code that frees more by it.
 static SPARE_ROOM: Mutex<Vec<u8>> = Mutex::new(Vec::new());
 
-/// Does what frees memory once it has some.
+/// Runs work that needs some memory to free more.
 pub fn with_spare<R>(work: impl FnOnce() -> R) -> R {
     if !may_be_refused() {
         return work();
@@ -93,17 +93,17 @@ pub fn with_spare<R>(work: impl FnOnce() -> R) -> R {
     done
 }
 
-/// Takes the room for who frees more by it.
+/// Reserves the spare memory.
 pub(super) fn begin_spare() {
     take_spare(&mut SPARE_ROOM.lock().unwrap_or_else(PoisonError::into_inner));
 }
 
-/// Takes it, unless it is refused: then there is none until somebody has freed enough.
+/// Reserves it, unless memory is refused. Then there is none until enough was freed.
 fn take_spare(spare: &mut Vec<u8>) {
     let _ = fallibly(|| spare.try_reserve_exact(SPARE));
 }
 
-/// Whether the system may refuse memory. Where it doesn't, there is always room.
+/// Whether the system may refuse memory. If it never does, there is always room.
 static MAY_BE_REFUSED: LazyLock<bool> = LazyLock::new(|| {
     let is_limited = |of| getrlimit(of).current.is_some();
     let overcommits = std::fs::read_to_string("/proc/sys/vm/overcommit_memory");
@@ -111,12 +111,12 @@ static MAY_BE_REFUSED: LazyLock<bool> = LazyLock::new(|| {
     is_limited(Resource::As) || is_limited(Resource::Data) || never_overcommits
 });
 
-/// Whether the system may refuse memory.
+/// Returns whether the system may refuse memory.
 pub(super) fn may_be_refused() -> bool {
     *MAY_BE_REFUSED
 }
 
-/// Whether so many bytes would be given now. They may be taken by others before they are asked for.
+/// Checks that so many bytes would be given now. Others may take them before they are asked for.
 #[inline]
 pub fn has_room(bytes: usize) -> Result<(), NoRoom> {
     match *MAY_BE_REFUSED {
@@ -125,7 +125,7 @@ pub fn has_room(bytes: usize) -> Result<(), NoRoom> {
     }
 }
 
-/// The same of bytes in many pieces.
+/// Does the same for bytes in many pieces.
 pub fn has_pieces(bytes: usize) -> Result<(), NoRoom> {
     if !may_be_refused() {
         return Ok(());
@@ -144,7 +144,7 @@ pub fn has_pieces(bytes: usize) -> Result<(), NoRoom> {
 fn would_give(bytes: usize) -> Result<(), NoRoom> {
     let mut room = Vec::<u8>::new();
     let reserved = fallibly(|| room.try_reserve_exact(bytes));
-    // What nobody looks at the compiler wouldn't ask for.
+    // Without this the compiler would remove an allocation that nobody reads.
     std::hint::black_box(&room);
     reserved.map_err(|_| NoRoom)
 }

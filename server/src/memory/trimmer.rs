@@ -1,19 +1,19 @@
 use super::{allocator, resident, used};
 use std::time::{Duration, Instant};
 
-/// How often it is looked at most whether memory can be given back.
+/// The least time between two checks whether memory can be returned.
 const PAUSE: Duration = Duration::from_secs(1);
-/// How much has to have come since memory was last given back, and how much of it has to be free.
+/// How much must have come since memory was last returned, and how much of it must be free.
 const LEAST: u64 = 16 << 20;
-/// And one part of so many of what is in use.
+/// One part in so many of the used memory must be free, too.
 const OF_USED: u64 = 4;
-/// A look that took long is followed by so many times as long without one.
+/// A check that took long is followed by a pause of so many times its length.
 const REST: u32 = 20;
 
-/// Gives the system from time to time what is free of the process' memory, as the C library keeps most of it.
+/// From time to time returns the process' free memory to the system, because the C library keeps most of it.
 #[derive(Debug)]
 pub struct Trimmer {
-    /// How many bytes the process had when memory was last given back, or fewer since.
+    /// How many bytes the process had when memory was last returned, or fewer since.
     least: u64,
     next: Instant,
 }
@@ -28,7 +28,7 @@ impl Default for Trimmer {
 }
 
 impl Trimmer {
-    /// Gives back what is free, if it is much and that wasn't done just before.
+    /// Returns free memory to the system, if it is much and memory wasn't returned just before.
     pub fn look(&mut self) {
         let began = Instant::now();
         if began < self.next {

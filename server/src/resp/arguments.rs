@@ -1,6 +1,6 @@
 use super::Command;
 
-/// The place of an argument in the bytes that it was read from.
+/// The place of an argument in the bytes from which it was read.
 #[derive(Clone, Copy, Debug, PartialEq, Eq)]
 pub(super) struct Span {
     pub(super) start: usize,
@@ -11,7 +11,7 @@ pub(super) struct Span {
 #[derive(Debug, Default)]
 pub struct Arguments {
     spans: Vec<Span>,
-    /// The unquoted words of a command that came as a line; what came with lengths lies in the input.
+    /// The unquoted words of a command that came as a line. Arguments that came with lengths lie in the input.
     words: Vec<u8>,
     is_line: bool,
 }
@@ -30,7 +30,7 @@ impl Arguments {
         self.spans.push(Span { start, end });
     }
 
-    /// Has words be taken from now on that don't lie in the input as they are.
+    /// From now on takes words that don't lie in the input as they are.
     pub(super) fn begin_line(&mut self) {
         self.is_line = true;
     }
@@ -40,17 +40,17 @@ impl Arguments {
         self.words.push(byte);
     }
 
-    /// Where the next word of a line begins.
+    /// Returns where the next word of a line begins.
     pub(super) fn word_start(&self) -> usize {
         self.words.len()
     }
 
-    /// Ends the word of a line that began there.
+    /// Ends the word of a line that began at this place.
     pub(super) fn end_word(&mut self, start: usize) {
         self.push(start, self.words.len());
     }
 
-    /// The command, whose input is the one that it was parsed from.
+    /// Returns the command. The input must be the one from which it was parsed.
     #[inline]
     pub fn command<'a>(&'a self, input: &'a [u8]) -> Command<'a> {
         let bytes = if self.is_line { &self.words } else { input };

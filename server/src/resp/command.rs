@@ -16,19 +16,19 @@ impl<'a> Command<'a> {
         Command { bytes, spans }
     }
 
-    /// How many arguments there are, the name among them.
+    /// Returns how many arguments there are, including the name.
     #[inline]
     pub fn len(&self) -> usize {
         self.spans.len()
     }
 
-    /// Whether it is none, as an empty line is.
+    /// Returns whether there is no command, as in an empty line.
     #[inline]
     pub fn is_empty(&self) -> bool {
         self.spans.is_empty()
     }
 
-    /// The argument at this place, from 0, which is the name; an empty one past the last.
+    /// Returns the argument at this place. Place 0 is the name; past the last one the argument is empty.
     #[inline]
     pub fn get(&self, index: usize) -> &'a [u8] {
         self.spans
@@ -36,34 +36,34 @@ impl<'a> Command<'a> {
             .map_or(&[], |it| &self.bytes[it.start..it.end])
     }
 
-    /// The arguments behind this many.
+    /// Returns the arguments behind the first so many.
     pub fn from(&self, first: usize) -> Command<'a> {
         Command::new(self.bytes, self.spans.get(first..).unwrap_or(&[]))
     }
 
-    /// The arguments from one place on, up to another one, which is none of them.
+    /// Returns the arguments from one place up to another one, exclusive.
     pub fn within(&self, first: usize, end: usize) -> Command<'a> {
         Command::new(self.bytes, self.spans.get(first..end).unwrap_or(&[]))
     }
 
-    /// All arguments in order.
+    /// Returns all arguments in order.
     pub fn iter(&self) -> impl Iterator<Item = &'a [u8]> {
         let bytes = self.bytes;
         self.spans.iter().map(move |it| &bytes[it.start..it.end])
     }
 
-    /// How many bytes the arguments have.
+    /// Returns how many bytes the arguments have.
     pub fn size(&self) -> usize {
         self.spans.iter().map(|it| it.end - it.start).sum()
     }
 
-    /// Whether the argument at this place is this word, in whatever case.
+    /// Returns whether the argument at this place is this word, in any case.
     pub fn is(&self, index: usize, word: &str) -> bool {
         index < self.len() && self.get(index).eq_ignore_ascii_case(word.as_bytes())
     }
 }
 
-/// How many words of a command, and how many of their bytes, a log shows.
+/// The most words of a command, and the most bytes of them, that a log shows.
 const MOST_SHOWN_WORDS: usize = 8;
 const MOST_SHOWN: usize = 100;
 
@@ -75,13 +75,13 @@ pub struct OwnedCommand {
 }
 
 impl OwnedCommand {
-    /// A copy of the command.
+    /// Returns a copy of the command.
     pub fn new(command: Command<'_>) -> OwnedCommand {
         let bytes = Vec::with_capacity(command.size());
         OwnedCommand::within(command, bytes, Vec::with_capacity(command.len()))
     }
 
-    /// The same, unless memory is refused for it.
+    /// Copies the command, unless memory for it is refused.
     pub fn copied(command: Command<'_>) -> Result<OwnedCommand, NoRoom> {
         let (mut bytes, mut spans) = (Vec::new(), Vec::new());
         memory::reserve(&mut bytes, command.size())?;
@@ -89,7 +89,7 @@ impl OwnedCommand {
         Ok(OwnedCommand::within(command, bytes, spans))
     }
 
-    /// A copy that lies in these, which are empty.
+    /// Returns a copy that lies in these lists, which must be empty.
     fn within(command: Command<'_>, mut bytes: Vec<u8>, mut spans: Vec<Span>) -> OwnedCommand {
         for argument in command.iter() {
             let start = bytes.len();
@@ -101,7 +101,7 @@ impl OwnedCommand {
         OwnedCommand { bytes, spans }
     }
 
-    /// The command of these words.
+    /// Returns the command of these words.
     pub fn of(words: &[impl AsRef<[u8]>]) -> OwnedCommand {
         let (mut bytes, mut spans) = (Vec::new(), Vec::new());
         for word in words {
@@ -114,18 +114,19 @@ impl OwnedCommand {
         OwnedCommand { bytes, spans }
     }
 
-    /// The command whose bytes these are, as [`OwnedCommand::spell`] writes them; none where they aren't one's.
+    /// Parses bytes that [`OwnedCommand::spell`] wrote. Returns nothing if they are malformed.
     pub fn spelled(bytes: &[u8]) -> Option<OwnedCommand> {
         let (command, end) = OwnedCommand::first_spelled(bytes)?;
         (end == bytes.len()).then_some(command)
     }
 
-    /// The command with which the bytes begin, and where it ends.
+    /// Returns the command with which the bytes begin, and where it ends.
     pub fn first_spelled(bytes: &[u8]) -> Option<(OwnedCommand, usize)> {
         OwnedCommand::of_first_spelled(bytes, OwnedCommand::new)
     }
 
-    /// Returns what this finds of the command with which the bytes begin, and where the command ends. It isn't copied.
+    /// Applies the closure to the command with which the bytes begin. Returns its result, and where the command ends.
+    /// The command isn't copied.
     pub fn of_first_spelled<T>(
         bytes: &[u8],
         find: impl FnOnce(Command<'_>) -> T,
@@ -138,11 +139,11 @@ impl OwnedCommand {
         Some((find(arguments.command(bytes)), end))
     }
 
-    /// Its bytes, as a client would send it.
+    /// Returns its bytes, as a client would send it.
     pub fn spell(&self) -> Vec<u8> {
         let command = self.command();
         let mut bytes = Vec::with_capacity(command.size() + 16 * (1 + command.len()));
-        // Memory takes whatever is written.
+        // Writing to memory never fails.
         let _ = write!(bytes, "*{}\r\n", command.len());
         for argument in command.iter() {
             let _ = write!(bytes, "${}\r\n", argument.len());
@@ -152,7 +153,7 @@ impl OwnedCommand {
         bytes
     }
 
-    /// Its front, as a log shows it.
+    /// Returns its beginning, as a log shows it.
     pub fn shown(&self) -> String {
         let words: Vec<_> = self.command().iter().take(MOST_SHOWN_WORDS).collect();
         let line = words.join(&b' ');
@@ -161,7 +162,7 @@ impl OwnedCommand {
             .to_string()
     }
 
-    /// The command.
+    /// Returns the command.
     pub fn command(&self) -> Command<'_> {
         Command::new(&self.bytes, &self.spans)
     }

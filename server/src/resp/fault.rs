@@ -2,30 +2,30 @@ use super::{MAX_LINE, MAX_READ, MAX_READ_ARGUMENTS};
 use std::error::Error;
 use std::fmt;
 
-/// Why bytes are no command; the connection ends by it, as nobody knows where the next command begins.
+/// Why bytes aren't a command. The connection ends then, because nobody knows where the next command begins.
 #[derive(Clone, Copy, Debug, PartialEq, Eq)]
 pub enum ProtocolFault {
-    /// The number of arguments is no number.
+    /// The number of arguments isn't a number.
     ArrayLength,
     /// There are too many arguments.
     ManyArguments,
     /// An argument has no length before it, but this byte.
     NoLength(u8),
-    /// The length of an argument is no number.
+    /// The length of an argument isn't a number.
     ArgumentLength,
     /// An argument has too many bytes.
     LongArgument,
     /// The arguments have too many bytes.
     TooLarge,
-    /// An argument isn't followed by a line's end.
+    /// An argument isn't followed by a line feed.
     NoLineEnd,
     /// A command that came as a line is too long.
     LongLine,
-    /// A quoted word of such a line has no end, or something right behind it.
+    /// A quoted word of such a line isn't closed, or is directly followed by something.
     Quotes,
 }
 
-/// In Redis' words where Redis has the case, and behind them the bound, where one was exceeded.
+/// Written in Redis' words if Redis has the case. If a bound was exceeded, it follows.
 impl fmt::Display for ProtocolFault {
     fn fmt(&self, f: &mut fmt::Formatter<'_>) -> fmt::Result {
         f.write_str("Protocol error: ")?;

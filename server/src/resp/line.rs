@@ -1,6 +1,6 @@
 use super::{Arguments, Oversized, ProtocolFault, Unparsed, MAX_ARGUMENTS};
 
-/// Takes the words of a line, some of which may stand in quotes, as redis-cli and Redis take them.
+/// Takes the words of a line as redis-cli and Redis do. Some words may be quoted.
 pub(super) fn words(line: &[u8], arguments: &mut Arguments) -> Result<(), Unparsed> {
     arguments.begin_line();
     let mut rest = line;
@@ -20,7 +20,7 @@ pub(super) fn words(line: &[u8], arguments: &mut Arguments) -> Result<(), Unpars
     }
 }
 
-/// Takes the word with which the line begins, and returns what follows it.
+/// Takes the first word of the line, and returns the rest.
 fn word<'a>(line: &'a [u8], arguments: &mut Arguments) -> Result<&'a [u8], ProtocolFault> {
     let mut rest = line;
     while let [byte, after @ ..] = rest {
@@ -37,7 +37,7 @@ fn word<'a>(line: &'a [u8], arguments: &mut Arguments) -> Result<&'a [u8], Proto
     Ok(rest)
 }
 
-/// What follows a quoted word: nothing, or a space.
+/// Checks the rest of a line behind a quoted word: it must be empty, or begin with a space.
 fn ended(rest: &[u8]) -> Result<&[u8], ProtocolFault> {
     match rest.first() {
         Some(byte) if !byte.is_ascii_whitespace() => Err(ProtocolFault::Quotes),

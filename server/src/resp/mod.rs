@@ -1,4 +1,4 @@
-//! The protocol of Redis clients, versions 2 and 3: what they send, and what they are answered.
+//! The protocol of Redis clients, versions 2 and 3: requests and replies.
 mod arguments;
 mod command;
 mod fault;

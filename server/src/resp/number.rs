@@ -3,7 +3,7 @@
 /// The most bytes of a number.
 const MAX_DIGITS: usize = 20;
 
-/// The number that is written so: in digits without leading zeros, with a `-` before a number below 0.
+/// Parses a number in digits without leading zeros. A negative number begins with `-`.
 pub fn parse(text: &[u8]) -> Option<i64> {
     let (is_negative, digits) = match text {
         [b'-', digits @ ..] => (true, digits),
@@ -16,7 +16,7 @@ pub fn parse(text: &[u8]) -> Option<i64> {
         digits if digits.len() >= MAX_DIGITS => return None,
         _ => {}
     }
-    // Downwards, as the least number has no opposite.
+    // It counts downwards, because the least number has no positive counterpart.
     let least = digits.iter().try_fold(0i64, |sum, digit| {
         let digit = digit.is_ascii_digit().then(|| i64::from(digit - b'0'))?;
         sum.checked_mul(10)?.checked_sub(digit)
@@ -28,29 +28,29 @@ pub fn parse(text: &[u8]) -> Option<i64> {
     }
 }
 
-/// The digits of a number, in room of their own.
+/// The digits of a number, without allocation.
 #[derive(Clone, Copy, Debug)]
 pub struct Digits {
     line: NumberLine,
 }
 
 impl Digits {
-    /// Those of this number, as `parse` reads them.
+    /// Returns the digits of this number, as `parse` reads them.
     pub fn new(number: i64) -> Digits {
         let line = NumberLine::new(b' ', number);
         Digits { line }
     }
 
-    /// The bytes.
+    /// Returns the bytes.
     pub fn as_bytes(&self) -> &[u8] {
         &self.line.bytes[self.line.start + 1..LINE - 2]
     }
 }
 
-/// Room for a kind, a number and the end of a line.
+/// Room for a kind, a number and a line's end.
 const LINE: usize = 1 + MAX_DIGITS + 2;
 
-/// A number as a line of an answer, in room of its own.
+/// A number as a line of an answer, without allocation.
 #[derive(Clone, Copy, Debug)]
 pub struct NumberLine {
     bytes: [u8; LINE],
@@ -58,7 +58,7 @@ pub struct NumberLine {
 }
 
 impl NumberLine {
-    /// The line of this kind and number.
+    /// Returns the line of this kind and number.
     #[inline]
     pub fn new(kind: u8, number: i64) -> NumberLine {
         let (mut bytes, mut start) = ([0; LINE], LINE - 2);
@@ -82,7 +82,7 @@ impl NumberLine {
         NumberLine { bytes, start }
     }
 
-    /// The bytes.
+    /// Returns the bytes.
     #[inline]
     pub fn as_bytes(&self) -> &[u8] {
         &self.bytes[self.start..]

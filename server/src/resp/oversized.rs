@@ -1,7 +1,7 @@
 use super::{MAX_ARGUMENTS, MAX_COMMAND};
 use std::fmt;
 
-/// Why a command is read to its end and refused: it has more than a command may have.
+/// Why a command is read to its end and refused: it is larger than a command may be.
 #[derive(Clone, Copy, Debug, PartialEq, Eq)]
 pub enum Oversized {
     /// Too many arguments.

@@ -1,28 +1,28 @@
 use super::{line, number, Arguments, Oversized, ProtocolFault};
 
-/// The most bytes of a command that is done, all that stands between its arguments among them.
+/// The most bytes of a command that is done, including the lengths between its arguments.
 pub const MAX_COMMAND: usize = 1 << 20;
-/// The most arguments of a command that is done, its name among them.
+/// The most arguments of a command that is done, including its name.
 pub const MAX_ARGUMENTS: usize = 1_024;
-/// The most bytes of a command that is read to its end and refused, as of a value of Redis.
+/// The most bytes of a command that is read to its end and refused. It is the bound of a value in Redis.
 pub const MAX_READ: usize = 512 << 20;
-/// The most arguments of such a command, as of one of Redis.
+/// The most arguments of such a command, as in Redis.
 pub const MAX_READ_ARGUMENTS: usize = 1 << 20;
 /// The most bytes of a command that comes as a line.
 pub const MAX_LINE: usize = 64 << 10;
 /// The most bytes of a line with a length.
 const MAX_LENGTH_LINE: usize = 24;
-/// What stands behind an argument.
+/// The bytes behind an argument.
 pub(super) const LINE_END: &[u8] = b"\r\n";
 
 /// Why there is no command.
 #[derive(Clone, Copy, Debug, PartialEq, Eq)]
 pub enum Unparsed {
-    /// There is none in fewer than so many bytes of input.
+    /// The input has no whole command until it has so many bytes.
     Incomplete(usize),
-    /// There will be none, and nobody knows where the next one begins.
+    /// The input is malformed, and nobody knows where the next command begins.
     Malformed(ProtocolFault),
-    /// There will be none, and the next one begins where [`ReadAway`](super::ReadAway) comes to its end.
+    /// The command is too large. The next one begins where [`ReadAway`](super::ReadAway) ends.
     Oversized(Oversized),
 }
 
@@ -38,8 +38,8 @@ impl From<Oversized> for Unparsed {
     }
 }
 
-/// Reads the command with which the input begins, and returns where it ends. An empty line, and one of no arguments,
-/// is a command without a name.
+/// Reads the command with which the input begins, and returns where it ends. An empty line, or an array without
+/// elements, is a command without a name.
 pub fn parse(input: &[u8], arguments: &mut Arguments) -> Result<usize, Unparsed> {
     arguments.clear();
     match input.first() {
@@ -54,7 +54,7 @@ fn parse_array(input: &[u8], arguments: &mut Arguments) -> Result<usize, Unparse
         Some(short) => short,
         None => any_count(input)?,
     };
-    // An argument that ends within this is none of a command that is too large.
+    // If an argument ends within this, the command isn't too large up to there.
     let most = &input[..input.len().min(MAX_COMMAND)];
     let mut rest = &most[start..];
     for _ in 0..count {
@@ -71,7 +71,8 @@ fn parse_array(input: &[u8], arguments: &mut Arguments) -> Result<usize, Unparse
     Ok(most.len() - rest.len())
 }
 
-/// The number of arguments in the first line, and where the next line begins; refused where so many aren't done.
+/// Returns the number of arguments in the first line, and where the next line begins. Refuses a number of arguments
+/// that is too large to be done.
 #[inline(never)]
 fn any_count(input: &[u8]) -> Result<(usize, usize), Unparsed> {
     match count_of(input)? {
@@ -80,10 +81,11 @@ fn any_count(input: &[u8]) -> Result<(usize, usize), Unparsed> {
     }
 }
 
-/// The number of arguments in the first line, and where the next line begins; refused where so many aren't read.
+/// Returns the number of arguments in the first line, and where the next line begins. Refuses a number of arguments
+/// that is too large to be read.
 pub(super) fn count_of(input: &[u8]) -> Result<(usize, usize), Unparsed> {
     let (count, at) = length(input, 1, ProtocolFault::ArrayLength)?;
-    // A number below 0 is none, as in Redis.
+    // A negative number means no arguments, as in Redis.
     let count = usize::try_from(count).unwrap_or(0);
     match count <= MAX_READ_ARGUMENTS {
         true => Ok((count, at)),
@@ -91,7 +93,8 @@ pub(super) fn count_of(input: &[u8]) -> Result<(usize, usize), Unparsed> {
     }
 }
 
-/// The length of the argument from here on, and where its bytes begin; refused where so many aren't read.
+/// Returns the length of the argument from here on, and where its bytes begin. Refuses a length that is too large to be
+/// read.
 pub(super) fn length_of(input: &[u8], at: usize) -> Result<(usize, usize), Unparsed> {
     match input.get(at) {
         None => return Err(Unparsed::Incomplete(at + 1)),
@@ -106,8 +109,8 @@ pub(super) fn length_of(input: &[u8], at: usize) -> Result<(usize, usize), Unpar
     }
 }
 
-/// The number in the line of this mark with which the input begins, and where the next line begins; where it has one
-/// digit or two.
+/// Returns the number in the input's first line, which has this mark, and where the next line begins, if the number has
+/// one digit or two.
 #[inline(always)]
 fn short_length(input: &[u8], mark: u8) -> Option<(usize, usize)> {
     let [first, ten, one, ..] = input.first_chunk::<5>()?;
@@ -122,8 +125,7 @@ fn short_length(input: &[u8], mark: u8) -> Option<(usize, usize)> {
     }
 }
 
-/// Where the argument begins and ends with which the input begins; where it has less than 100 bytes and all of it is
-/// there.
+/// Returns where the input's first argument begins and ends, if it has less than 100 bytes and is complete.
 #[inline(always)]
 fn short_argument(input: &[u8]) -> Option<(usize, usize)> {
     let (length, start) = short_length(input, b'$')?;
@@ -131,7 +133,7 @@ fn short_argument(input: &[u8]) -> Option<(usize, usize)> {
     (input.get(end..end + LINE_END.len())? == LINE_END).then_some((start, end))
 }
 
-/// Takes the argument from here on, whatever it is, and returns where the next one begins.
+/// Takes the argument from here on, and returns where the next one begins.
 #[inline(never)]
 fn parse_argument(input: &[u8], at: usize, arguments: &mut Arguments) -> Result<usize, Unparsed> {
     let (length, start) = length_of(input, at)?;
@@ -150,7 +152,7 @@ fn parse_argument(input: &[u8], at: usize, arguments: &mut Arguments) -> Result<
     }
 }
 
-/// The number in the line from here on, of however many digits, and where the next line begins.
+/// Returns the number in the line from here on, with any number of digits, and where the next line begins.
 fn length(input: &[u8], at: usize, fault: ProtocolFault) -> Result<(i64, usize), Unparsed> {
     let line = &input[at..];
     let end = line

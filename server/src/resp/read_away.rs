@@ -5,9 +5,9 @@ use super::{ProtocolFault, Unparsed, MAX_READ};
 #[derive(Debug, Default)]
 pub struct ReadAway {
     stage: Stage,
-    /// How many arguments follow the one that is read.
+    /// How many arguments follow the present one.
     arguments: usize,
-    /// How many bytes were read, and are announced.
+    /// How many bytes were read, or are announced.
     bytes: usize,
 }
 
@@ -20,28 +20,28 @@ enum Stage {
     Length,
     /// So many bytes of an argument.
     Bytes(usize),
-    /// What stands behind an argument.
+    /// The line's end behind an argument.
     LineEnd,
     /// Nothing.
     Over,
 }
 
-/// What was taken of the input.
+/// The part of the input that was taken.
 #[derive(Clone, Copy, Debug, PartialEq, Eq)]
 pub struct Taken {
-    /// How many bytes, which aren't needed any more.
+    /// How many bytes were taken. They aren't needed any more.
     pub bytes: usize,
     /// Whether the command ended with them.
     pub is_over: bool,
 }
 
 impl ReadAway {
-    /// Takes what there is of the command, from where the last call left off. Of a length that isn't whole yet it
-    /// leaves the front, which is shorter than a line with a length may be.
+    /// Takes the part of the command that is there, from where the last call ended. It leaves the beginning of an
+    /// incomplete length, which is shorter than a line with a length may be.
     ///
     /// # Errors
     ///
-    /// Returns why nobody knows where the command ends, or that it is larger than what is read away.
+    /// Returns why nobody knows where the command ends, or that it is too large to be read.
     pub fn take(&mut self, input: &[u8]) -> Result<Taken, ProtocolFault> {
         let mut at = 0;
         while self.stage != Stage::Over {
@@ -57,7 +57,7 @@ impl ReadAway {
         })
     }
 
-    /// Takes the next part of the command; returns how many bytes that has.
+    /// Takes the next part of the command, and returns how many bytes it has.
     fn step(&mut self, input: &[u8]) -> Result<usize, Unparsed> {
         if input.is_empty() {
             return Err(Unparsed::Incomplete(1));
@@ -90,7 +90,7 @@ impl ReadAway {
         }
     }
 
-    /// Takes a command that came as a line, all of which is there.
+    /// Takes a command that came as a line, which must be complete.
     fn line(&mut self, input: &[u8]) -> Result<usize, Unparsed> {
         let end = input.iter().position(|it| *it == b'\n');
         let end = end.ok_or(Unparsed::Incomplete(input.len() + 1))?;
@@ -135,7 +135,7 @@ mod tests {
     use super::*;
     use crate::chance::Chance;
 
-    /// A command of so many arguments, each of so many bytes.
+    /// Returns a command of so many arguments, each of so many bytes.
     fn command(arguments: usize, bytes: usize) -> Vec<u8> {
         let mut command = format!("*{arguments}\r\n").into_bytes();
         let argument = format!("${bytes}\r\n{}\r\n", "a".repeat(bytes));

@@ -4,17 +4,17 @@ use crate::stats::ErrorCounts;
 use std::fmt::Display;
 use std::io::Write;
 
-/// The most bytes of a reply: enough for as many pairs as a scan gives.
+/// The most bytes of a reply. They suffice for as many pairs as a scan returns.
 pub const MAX_REPLY: usize = 8 << 20;
-/// Room that isn't kept once all was sent; and what was sent is kept no longer than until it is as much.
+/// Larger room isn't kept once everything was sent. Sent bytes are dropped at the latest when there are so many.
 const KEPT_ROOM: usize = 16 << 10;
 
 /// The most bytes of a short reply, as of an error.
 const SHORT: usize = 512;
-/// Where there are so many bytes, room for a short reply is reserved before a command is done.
+/// If there are so many bytes, room for a short reply is reserved before a command is done.
 const FEW: usize = 4 << 10;
 
-/// The version of the protocol in which a client is answered.
+/// The client's version of the protocol.
 #[derive(Clone, Copy, Debug, Default, PartialEq, Eq)]
 pub enum Protocol {
     /// RESP2, with which each connection begins.
@@ -24,7 +24,7 @@ pub enum Protocol {
     Three,
 }
 
-/// What a connection is answered, and hasn't been sent yet.
+/// The answers of a connection that weren't sent yet.
 #[derive(Debug, Default)]
 pub struct Replies {
     bytes: Vec<u8>,
@@ -35,12 +35,12 @@ pub struct Replies {
     errors: ErrorCounts,
     /// For how many short replies room is kept, beside one.
     owed: usize,
-    /// Whether memory was refused for something long of the last reply.
+    /// Whether memory was refused for a long part of the last reply.
     is_cut: bool,
 }
 
 impl Replies {
-    /// None, in this version.
+    /// Makes an empty list, in this version.
     pub fn new(protocol: Protocol) -> Replies {
         Replies {
             protocol,
@@ -48,13 +48,14 @@ impl Replies {
         }
     }
 
-    /// The bytes that weren't sent yet.
+    /// Returns the bytes that weren't sent yet.
     #[inline]
     pub fn unsent(&self) -> &[u8] {
         &self.bytes[self.sent..]
     }
 
-    /// Notes that so many more bytes were sent; between commands, as marks of before are none then.
+    /// Notes that so many more bytes were sent. It must be called between commands, because earlier marks aren't valid
+    /// after it.
     pub fn note_sent(&mut self, count: usize) {
         self.sent += count;
         let unsent = self.bytes.len() - self.sent;
@@ -65,33 +66,35 @@ impl Replies {
                 self.bytes = Vec::new();
             }
         } else if self.sent >= KEPT_ROOM.max(unsent) {
-            // A client that always asks for more than it has read never has all. No more bytes move than were sent.
+            // If a client always asks for more than it has read, the list never becomes empty. No more bytes are moved
+            // here than were sent.
             self.bytes.drain(..self.sent);
             self.sent = 0;
         }
     }
 
-    /// Whether there is room for a short reply: else what is there is sent before another command is done.
+    /// Returns whether there is room for a short reply. If there isn't, the list must be sent before another command is
+    /// done.
     #[inline]
     pub fn has_room_for_one(&mut self) -> bool {
         self.bytes.len() < FEW || self.reserve(0).is_ok()
     }
 
-    /// Keeps room for so many short replies, and for one behind them, until [`Replies::owe`] says that it is for fewer;
-    /// refused where memory is.
+    /// Keeps room for so many short replies, and for one more behind them, until [`Replies::owe`] reduces it. Fails if
+    /// memory is refused.
     pub fn keep_room(&mut self, count: usize) -> Result<(), NoRoom> {
-        // What says how many they are is one more.
+        // The reply that tells their number is one more.
         memory::reserve(&mut self.bytes, SHORT * (2 + count))?;
         self.owe(count);
         Ok(())
     }
 
-    /// Keeps room for so many short replies alone behind the next one.
+    /// Keeps room for only so many short replies behind the next one.
     pub fn owe(&mut self, count: usize) {
         self.owed = count;
     }
 
-    /// Has room for so many more bytes, and for all that it is kept for.
+    /// Makes room for so many more bytes, and for everything that room is kept for.
     #[inline]
     fn reserve(&mut self, more: usize) -> Result<(), NoRoom> {
         let are_few = self.owed == 0 && self.bytes.len() + more < FEW;
@@ -103,7 +106,7 @@ impl Replies {
         }
     }
 
-    /// Writes what may be long; or notes that memory was refused for it.
+    /// Writes bytes that may be long. If memory for them is refused, notes that.
     fn put(&mut self, bytes: &[u8]) {
         match self.reserve(bytes.len()) {
             Ok(()) => self.bytes.extend_from_slice(bytes),
@@ -111,7 +114,7 @@ impl Replies {
         }
     }
 
-    /// Refused where memory was for a part of the last reply, which is to be taken back then.
+    /// Fails if memory for a part of the last reply was refused. Then the reply must be taken back.
     #[inline]
     pub fn are_whole(&self) -> Result<(), NoRoom> {
         match self.is_cut {
@@ -120,8 +123,8 @@ impl Replies {
         }
     }
 
-    /// A whole reply that was written elsewhere, in the same version. Memory isn't refused for a short one, which may
-    /// tell of a change.
+    /// Appends a whole reply that was written elsewhere, in the same version. Memory for a short reply isn't refused,
+    /// because it may tell of a change.
     pub fn append(&mut self, reply: &[u8]) {
         match reply.len() <= SHORT {
             true => self.bytes.extend_from_slice(reply),
@@ -129,7 +132,7 @@ impl Replies {
         }
     }
 
-    /// The same, of which nothing is copied where there is no other one.
+    /// Does the same, and copies nothing if there is no other reply.
     pub fn append_owned(&mut self, reply: Vec<u8>) {
         match self.bytes.is_empty() {
             true => self.bytes = reply,
@@ -137,13 +140,13 @@ impl Replies {
         }
     }
 
-    /// All of it that wasn't sent.
+    /// Returns all bytes that weren't sent.
     pub fn into_bytes(mut self) -> Vec<u8> {
         self.bytes.drain(..self.sent);
         self.bytes
     }
 
-    /// A whole reply of another process, in the same version, which is counted where it is an error.
+    /// Appends a whole reply of another process, in the same version. If it is an error, it is counted.
     pub fn append_told(&mut self, reply: &[u8]) {
         let start = self.bytes.len() + 1;
         let line = reply.strip_prefix(b"-");
@@ -155,7 +158,7 @@ impl Replies {
         }
     }
 
-    /// Replies that were written elsewhere, with the errors among them.
+    /// Appends replies that were written elsewhere, with the errors among them.
     pub fn take_over(&mut self, mut other: Replies) {
         self.append(other.unsent());
         self.error_count += other.error_count;
@@ -164,56 +167,56 @@ impl Replies {
         }
     }
 
-    /// Where the next reply begins.
+    /// Returns where the next reply begins.
     #[inline]
     pub fn mark(&self) -> usize {
         self.bytes.len()
     }
 
-    /// What was written since the mark.
+    /// Returns the bytes that were written since the mark.
     pub fn since(&self, mark: usize) -> &[u8] {
         &self.bytes[mark..]
     }
 
-    /// Whether the reply that began at the mark has more bytes than a reply may have.
+    /// Returns whether the reply that began at the mark has more bytes than a reply may have.
     pub fn is_too_large(&self, mark: usize) -> bool {
         self.bytes.len() - mark > MAX_REPLY
     }
 
-    /// Whether the reply that began at the mark may get so many more bytes.
+    /// Returns whether the reply that began at the mark may get so many more bytes.
     pub fn has_room(&self, mark: usize, more: usize) -> bool {
         self.bytes.len() - mark + more <= MAX_REPLY
     }
 
-    /// Takes back what was written since the mark.
+    /// Takes back everything that was written since the mark.
     pub fn take_back(&mut self, mark: usize) {
         self.bytes.truncate(mark);
         self.is_cut = false;
     }
 
-    /// The word OK.
+    /// Writes the word OK.
     #[inline]
     pub fn ok(&mut self) {
         self.bytes.extend_from_slice(b"+OK\r\n");
     }
 
-    /// A word that is no data, as PONG.
+    /// Writes a word that isn't data, like PONG.
     pub fn simple(&mut self, word: &str) {
         self.bytes.push(b'+');
         self.bytes.extend_from_slice(word.as_bytes());
         self.bytes.extend_from_slice(b"\r\n");
     }
 
-    /// A refusal, whose first word is its name. Bytes that would end the line are shown as spaces.
+    /// Writes a refusal. Its first word is its name. Bytes that would end the line are shown as spaces.
     pub fn error(&mut self, fault: impl Display) {
         let start = self.bytes.len() + 1;
         self.bytes.push(b'-');
-        // Memory takes whatever is written.
+        // Writing to memory never fails.
         let _ = write!(self.bytes, "{fault}");
         self.end_error(start);
     }
 
-    /// The same of a refusal with bytes that may be no text.
+    /// Does the same for a refusal with bytes that may not be UTF-8.
     pub fn error_bytes(&mut self, fault: &[u8]) {
         let start = self.bytes.len() + 1;
         self.bytes.push(b'-');
@@ -221,7 +224,7 @@ impl Replies {
         self.end_error(start);
     }
 
-    /// Ends the error that began there, and counts it.
+    /// Ends the error that began at this place, and counts it.
     fn end_error(&mut self, start: usize) {
         for byte in &mut self.bytes[start..] {
             if matches!(byte, b'\r' | b'\n') {
@@ -232,7 +235,7 @@ impl Replies {
         self.bytes.extend_from_slice(b"\r\n");
     }
 
-    /// Counts the error that stands there by its name.
+    /// Counts the error at this place by its name.
     fn count_error(&mut self, start: usize, end: usize) {
         self.error_count += 1;
         let told = &self.bytes[start..end];
@@ -245,34 +248,34 @@ impl Replies {
         }
     }
 
-    /// How many errors were written.
+    /// Returns how many errors were written.
     #[inline]
     pub fn error_count(&self) -> u64 {
         self.error_count
     }
 
-    /// The errors since they were taken last, if there are any.
+    /// Returns the errors since the last call, if there are any.
     pub fn take_errors(&mut self) -> Option<ErrorCounts> {
         (!self.errors.is_empty()).then(|| std::mem::take(&mut self.errors))
     }
 
-    /// A number.
+    /// Writes a number.
     pub fn number(&mut self, number: i64) {
         self.bytes
             .extend_from_slice(NumberLine::new(b':', number).as_bytes());
     }
 
-    /// A number of things.
+    /// Writes a count.
     pub fn count(&mut self, count: usize) {
         self.number(i64::try_from(count).unwrap_or(i64::MAX));
     }
 
-    /// Any bytes.
+    /// Writes any bytes.
     pub fn bulk(&mut self, bytes: &[u8]) {
         self.text_of(b'$', &[], bytes);
     }
 
-    /// Text of this kind, by its length.
+    /// Writes text of this kind, with its length.
     fn text_of(&mut self, kind: u8, front: &[u8], bytes: &[u8]) {
         let length = front.len() + bytes.len();
         let line = NumberLine::new(kind, length as i64);
@@ -285,7 +288,7 @@ impl Replies {
         }
     }
 
-    /// A text for people, which is shown as it is.
+    /// Writes a text for people, which is shown as it is.
     pub fn text(&mut self, text: &str) {
         match self.protocol {
             Protocol::Two => self.bulk(text.as_bytes()),
@@ -293,7 +296,7 @@ impl Replies {
         }
     }
 
-    /// That there is nothing.
+    /// Writes that there is no value.
     pub fn null(&mut self) {
         self.put(match self.protocol {
             Protocol::Two => b"$-1\r\n",
@@ -301,12 +304,12 @@ impl Replies {
         });
     }
 
-    /// So many replies follow, which are one.
+    /// Begins an array of so many replies, which follow.
     pub fn array(&mut self, length: usize) {
         self.length(b'*', length);
     }
 
-    /// So many names follow, each with its value.
+    /// Begins a map of so many names, which follow, each with its value.
     pub fn map(&mut self, length: usize) {
         match self.protocol {
             Protocol::Two => self.array(2 * length),
@@ -371,7 +374,7 @@ mod tests {
         }
         assert!(sent.len() > 16 << 20 && wanted.starts_with(&sent));
         assert!(most < 2 << 20, "{most} bytes are kept");
-        // Of little unsent little is kept.
+        // If few bytes are unsent, little room is kept.
         replies.note_sent(replies.unsent().len());
         (0..9_000).for_each(|_| replies.ok());
         replies.note_sent(KEPT_ROOM);

@@ -1,32 +1,74 @@
-//! That who opens a store agrees with the settings with which it was written.
+//! Checks that a process that opens a store has the settings with which it was written.
 use super::line;
 use super::members::ReadMembers;
 use crate::configuration::Configuration;
 use crate::run::BoxError;
-use durkenzo_driver::keys;
-use durkenzo_store::{Outcome, Revision, Store, Transaction};
+use durkenzo_driver::{keys, split_settings};
+use durkenzo_store::{Outcome, ReadError, Revision, Store, Transaction};
 use std::fmt;
 
-/// Writes the settings where the store has none, and gives them as they lie there.
+/// Writes the settings if the store has none, and returns those in the store.
 ///
 /// # Errors
 ///
-/// Where it has other ones, with what else may be done; or where it can't be read or written.
+/// If the store has other settings, with the alternatives; or if it can't be read or written.
 pub fn agree(
     store: &dyn Store,
     place: &str,
     otherwise: &str,
     configuration: &Configuration,
 ) -> Result<String, BoxError> {
-    let wanted = written_settings(configuration);
-    let found = settle(store, &wanted)?;
+    let (found, wanted) = found_and_wanted(store, configuration)?;
     match found == wanted {
         true => Ok(wanted),
         false => Err(other_settings(place, otherwise, &found, &wanted).into()),
     }
 }
 
-/// Writes the settings where there are none yet, and gives those that lie there then.
+/// Writes the settings if the store of several processes has none. Returns those in force there, which may have changed
+/// since: servers and their capacities, domains and caps.
+///
+/// # Errors
+///
+/// If the store has other shards, or another ceiling, with the alternatives; or if it can't be read or written.
+pub fn agree_in_force(
+    store: &dyn Store,
+    place: &str,
+    otherwise: &str,
+    configuration: &Configuration,
+) -> Result<String, BoxError> {
+    let (found, wanted) = found_and_wanted(store, configuration)?;
+    let (there, here) = (Outline::of(&found), Outline::of(&wanted));
+    if !there.lasts_as(&here) {
+        return Err(other_settings(place, otherwise, &found, &wanted).into());
+    }
+    if found != wanted {
+        let advice = "SM RESIZE and SM CONFIGURE change them";
+        tracing::info!("the settings in force have {there}, and this start says {here}: {advice}");
+    }
+    Ok(found)
+}
+
+/// Returns whether the store has settings already.
+///
+/// # Errors
+///
+/// If it can't be read.
+pub fn has_settings(store: &dyn Store) -> Result<bool, ReadError> {
+    let found = store.read(&[keys::SETTINGS])?;
+    Ok(found.get(keys::SETTINGS).is_some())
+}
+
+/// Writes the settings if there are none yet. Returns the store's settings, and those of this start.
+fn found_and_wanted(
+    store: &dyn Store,
+    configuration: &Configuration,
+) -> Result<(String, String), BoxError> {
+    let wanted = written_settings(configuration);
+    Ok((settle(store, &wanted)?, wanted))
+}
+
+/// Writes the settings if there are none yet, and returns the store's settings.
 fn settle(store: &dyn Store, wanted: &str) -> Result<String, BoxError> {
     let first = Transaction::new()
         .compare(keys::SETTINGS, Revision::NEVER)
@@ -43,19 +85,19 @@ fn settle(store: &dyn Store, wanted: &str) -> Result<String, BoxError> {
     }
 }
 
-/// The settings as they lie in the store: how keys go to shards, and the line.
+/// Returns the settings as they lie in the store: the rule for keys, and the line.
 fn written_settings(configuration: &Configuration) -> String {
     format!("{}\n{}", configuration.rule.name(), line(configuration))
 }
 
-/// That what lies there is of other settings, how they differ, and what to do.
+/// Returns the fault that the store has other settings, how they differ, and the advice.
 fn other_settings(place: &str, otherwise: &str, found: &str, wanted: &str) -> String {
     let (found, wanted) = (Outline::of(found), Outline::of(wanted));
     let advice = format!("start with what it was made with, or {otherwise}");
     format!("OTHERSETTINGS {place} was made with {found}, and this start says {wanted}: {advice}")
 }
 
-/// What people know settings by.
+/// The parts of settings that people recognize.
 #[derive(Debug)]
 struct Outline<'a> {
     rule: &'a str,
@@ -64,9 +106,16 @@ struct Outline<'a> {
 
 impl Outline<'_> {
     fn of(written: &str) -> Outline<'_> {
-        let (rule, line) = written.split_once('\n').unwrap_or((written, ""));
+        let (rule, line) = split_settings(written);
         let members = ReadMembers::of(line).unwrap_or_default();
         Outline { rule, members }
+    }
+
+    /// Returns whether everything that no new settings can change is the same in both: the rule for keys, and the
+    /// greatest generation.
+    fn lasts_as(&self, other: &Outline<'_>) -> bool {
+        let lasts = |it: &Outline<'_>| (it.members.bounds.clone(), it.members.ceiling);
+        self.rule == other.rule && lasts(self) == lasts(other)
     }
 }
 

@@ -3,27 +3,28 @@ use crate::configuration::Configuration;
 use crate::keyspace::Rule;
 use std::collections::BTreeSet;
 
-/// The capacity of a server if no settings say it.
+/// The capacity of a server if the settings don't say it.
 const MUCH: u32 = u32::MAX;
-/// How many requests a shard keeps without checkpoint, at most; stores keep them by bases.
+/// The most requests that a shard keeps without a checkpoint. Stores bound them by bases.
 const MOST_KEPT: u32 = 1 << 20;
 /// The most of a group's shards.
 const ALL: u16 = 4_096;
 /// The most servers, so that no more may be away.
 const ALL_SERVERS: u16 = 4_095;
 
-/// Returns the line of settings by which the library opens a board, and a store's law is made: that of the file, or one
-/// that says what the options do.
+/// Returns the line of settings from which the library opens a board and makes a store's law: that of the file, or one
+/// that says the same as the options.
 pub fn line(configuration: &Configuration) -> String {
     match &configuration.settings {
         Some(line) => line.to_string(),
-        // Its keys are words, so nothing in it is refused.
+        // Its keys are words, so this can't fail.
         None => serde_json::to_string(&SettingsMembers::of(configuration)).unwrap_or_default(),
     }
 }
 
 impl SettingsMembers {
-    /// Those that say what options do: of each domain one server may be away, and nothing else binds shards.
+    /// Makes the members that say the same as the options: one server of each domain may be away, and nothing else
+    /// constrains shards.
     fn of(configuration: &Configuration) -> SettingsMembers {
         let domains = &configuration.domains;
         let server = |id| ServerRow {

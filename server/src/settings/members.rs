@@ -1,9 +1,9 @@
-//! The members of a line of settings, which docs/SETTINGS.md tells: those that the server writes, and those that it
-//! reads. The library judges and keeps all of them.
+//! The members of a line of settings, which docs/SETTINGS.md describes: those that the server writes, and those that it
+//! reads. The library checks and keeps all of them.
 use serde::{Deserialize, Serialize};
 use serde_json::Value;
 
-/// All members, in the order of their names: stores are opened by the bytes of the line.
+/// All members, sorted by name, because stores are opened by the bytes of the line.
 #[derive(Clone, Debug, Serialize)]
 pub(super) struct SettingsMembers {
     pub(super) bounds: Vec<String>,
@@ -51,7 +51,7 @@ pub(super) struct ReadMembers {
     pub(super) servers: Vec<ReadServerRow>,
     pub(super) ops: u16,
     pub(super) ceiling: u64,
-    /// The first version has none.
+    /// The first version has no domains.
     #[serde(default)]
     domains: Value,
 }
@@ -63,7 +63,8 @@ pub(super) struct ReadServerRow {
 }
 
 impl ReadMembers {
-    /// Returns those of this text, or why it has none. Of two members of one name the last counts, as for the library.
+    /// Parses the members, or returns why the text is malformed. If two members have the same name, the last one
+    /// counts, as in the library.
     pub(super) fn of(text: &str) -> Result<ReadMembers, serde_json::Error> {
         serde_json::from_value(serde_json::from_str(text)?)
     }

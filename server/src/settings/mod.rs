@@ -1,9 +1,9 @@
-//! Settings as scripts take them: one JSON object, which docs/SETTINGS.md tells.
+//! Settings in the form of scripts: one JSON object, which docs/SETTINGS.md describes.
 mod agreement;
 mod line;
 mod members;
 
-pub use agreement::agree;
+pub use agreement::{agree, agree_in_force, has_settings};
 pub use line::line;
 
 use crate::domains::Domains;
@@ -14,19 +14,19 @@ use std::fmt;
 /// The greatest generation that a shard may have.
 pub const MAX_CEILING: u64 = (1 << 36) - 1;
 
-/// What the server itself needs of the settings of a script; the library judges and keeps all of them.
+/// The part of a script's settings that the server itself needs. The library checks and keeps all of them.
 #[derive(Clone, Debug)]
 pub struct Settings {
     line: String,
     members: ReadMembers,
 }
 
-/// Why settings aren't accepted before the library judges them.
+/// Why settings are refused before the library checks them.
 #[derive(Debug)]
 pub enum SettingsLineFault {
-    /// They are no object of these members.
+    /// They aren't an object with these members.
     BadJson(serde_json::Error),
-    /// Servers have other numbers than 1, 2 and so on.
+    /// Servers aren't numbered 1, 2 and so on.
     Gaps,
 }
 
@@ -51,23 +51,23 @@ impl Error for SettingsLineFault {
 }
 
 impl Settings {
-    /// The settings of this text.
+    /// Parses the settings.
     pub fn of(text: &str) -> Result<Settings, SettingsLineFault> {
         let members = ReadMembers::of(text).map_err(SettingsLineFault::BadJson)?;
         if (1..).zip(&members.servers).any(|(id, row)| row.id != id) {
             return Err(SettingsLineFault::Gaps);
         }
-        // No text in JSON has an end of line in it as it is.
+        // A text in JSON never contains a line feed as it is.
         let line = text.replace(['\r', '\n'], " ");
         Ok(Settings { line, members })
     }
 
-    /// All of them, as a line.
+    /// Returns all of them, as a line.
     pub fn line(&self) -> &str {
         &self.line
     }
 
-    /// The bounds of the ranges.
+    /// Returns the bounds of the ranges.
     pub fn bounds(&self) -> Vec<Vec<u8>> {
         self.members
             .bounds
@@ -76,29 +76,29 @@ impl Settings {
             .collect()
     }
 
-    /// The number of servers.
+    /// Returns the number of servers.
     pub fn servers(&self) -> u16 {
         // The library takes at most 4,095.
         u16::try_from(self.members.servers.len()).unwrap_or(u16::MAX)
     }
 
-    /// How many servers may be away at once.
+    /// Returns how many servers may be away at once.
     pub fn restarts(&self) -> u16 {
         self.members.ops
     }
 
-    /// The greatest generation.
+    /// Returns the greatest generation.
     pub fn ceiling(&self) -> u64 {
         self.members.ceiling
     }
 
-    /// The servers that fail together. How many of them may be away at once the library knows.
+    /// Returns the servers that fail together. The library knows how many of them may be away at once.
     pub fn domains(&self) -> Domains {
         Domains::new(self.members.servers.iter().map(|it| it.domain).collect())
     }
 }
 
-/// So many bounds, even over the words of two letters from a to z, the first of which is empty.
+/// Returns so many bounds, even over the two-letter words from a to z. The first bound is empty.
 pub fn even_bounds(ranges: u16) -> Vec<Vec<u8>> {
     let letter = |it: u32| b'a' + (it % 26) as u8;
     let bound = |range: u32| {

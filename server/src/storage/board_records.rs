@@ -3,17 +3,17 @@ use crate::body::BoxedBody;
 use durkenzo::{Pass, PassFault, Record, UnknownShard};
 use std::sync::Arc;
 
-/// Sees the records on the board in memory.
+/// Reads the records of the board in memory.
 pub(crate) struct BoardRecords {
     memory: Arc<InMemory>,
-    /// Any server sees all records.
+    /// A pass of any server reads all records.
     pass: Pass<BoxedBody>,
-    /// Of which board the pass is.
+    /// The version of the pass's board.
     version: u64,
 }
 
 impl BoardRecords {
-    /// Sees those of the board there.
+    /// Makes the reader of this board's records.
     ///
     /// # Errors
     ///
@@ -28,7 +28,7 @@ impl BoardRecords {
         })
     }
 
-    /// Looks at the board that took the place of the one before, if one did.
+    /// Switches to the new board, if one has replaced the old one.
     pub(crate) fn renew(&mut self) {
         if self.version == self.memory.version() {
             return;
@@ -39,11 +39,11 @@ impl BoardRecords {
         }
     }
 
-    /// Returns the record of the shard, on the board that is used now.
+    /// Returns the record of the shard, on the board in use.
     ///
     /// # Errors
     ///
-    /// There is no such shard.
+    /// If there is no such shard.
     pub(crate) fn record(&mut self, shard: u16) -> Result<Record, UnknownShard> {
         self.renew();
         let mut record = self.pass.look(shard)?;

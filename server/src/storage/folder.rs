@@ -2,39 +2,51 @@ use crate::configuration::Configuration;
 use crate::run::BoxError;
 use crate::settings;
 use durkenzo_driver::Durable;
-use durkenzo_store::{Embedded, Store, Sync as SyncTime};
+use durkenzo_store::{Embedded, MeasuredStore, Store, StoreCounts, Sync as SyncTime};
 use std::path::Path;
 use std::sync::Arc;
 
-/// Data in a folder, by a store whose transactions proved servers decide.
+/// Data in a folder, in a store whose transactions are decided by proved servers.
 #[derive(Debug)]
 pub struct InFolder {
     durable: Arc<Durable>,
+    counts: Arc<StoreCounts>,
     sync: SyncTime,
 }
 
 impl InFolder {
-    /// The data of these shards, which is on the disk at such times.
-    pub fn new(durable: Arc<Durable>, sync: SyncTime) -> InFolder {
-        InFolder { durable, sync }
+    /// Returns the counts of this process's transactions.
+    pub fn counts(&self) -> &StoreCounts {
+        &self.counts
     }
 
-    /// Opens the shards of this folder, as the settings have them.
+    /// Makes the storage of these shards, with the counts of their transactions, and the rule for when data is on the
+    /// disk.
+    pub fn new(durable: Arc<Durable>, counts: Arc<StoreCounts>, sync: SyncTime) -> InFolder {
+        InFolder {
+            durable,
+            counts,
+            sync,
+        }
+    }
+
+    /// Opens the shards in this folder, with these settings.
     ///
     /// # Errors
     ///
-    /// The folder is of other settings, or can't be read or written.
+    /// If the folder has other settings, or can't be read or written.
     pub fn open(
         folder: &Path,
         sync: SyncTime,
         configuration: &Configuration,
     ) -> Result<InFolder, BoxError> {
-        let store: Arc<dyn Store> = Arc::new(Embedded::in_folder(folder, sync)?);
+        let store = MeasuredStore::new(Embedded::in_folder(folder, sync)?);
+        let (counts, store): (_, Arc<dyn Store>) = (store.counts().clone(), Arc::new(store));
         let place = format!("the folder {}", folder.display());
         settings::agree(&*store, &place, "name another folder", configuration)?;
-        let (shards, tuning) = (configuration.rule.shards(), configuration.tuning());
-        let durable = Durable::open(store, shards, tuning, Box::new(|| {}))?;
-        Ok(InFolder::new(Arc::new(durable), sync))
+        let (shards, shard_options) = (configuration.rule.shards(), configuration.shard_options());
+        let durable = Durable::open(store, shards, shard_options, Box::new(|| {}))?;
+        Ok(InFolder::new(Arc::new(durable), counts, sync))
     }
 
     /// Returns the shards.
@@ -42,7 +54,7 @@ impl InFolder {
         &self.durable
     }
 
-    /// Returns what a crash leaves of it.
+    /// Returns what a crash leaves of the data.
     pub(super) fn description(&self) -> &'static str {
         match self.sync {
             SyncTime::Always => "in a folder: a crash loses nothing that was answered",

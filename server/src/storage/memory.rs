@@ -9,20 +9,20 @@ use std::fmt;
 use std::sync::atomic::{AtomicU64, Ordering};
 use std::sync::{PoisonError, RwLock};
 
-/// Data in the memory of this process: the board with the body of each shard, and what is known of these.
+/// Data in the memory of this process: the board with the body of each shard, and some numbers about them.
 pub struct InMemory {
-    /// The line of settings by which boards are opened.
+    /// The line of settings from which boards are opened.
     line: String,
     board: RwLock<Board<BoxedBody>>,
     version: AtomicU64,
-    /// How many keys of each shard hold something.
+    /// How many keys each shard has.
     keys: Box<[AtomicU64]>,
-    /// The generations of shards when their board was opened.
+    /// The generations of the shards when their board was opened.
     bases: Box<[AtomicU64]>,
 }
 
 impl InMemory {
-    /// Opens a board of shards that hold nothing, and that nobody owns yet.
+    /// Opens a board of shards that are empty and have no owners yet.
     ///
     /// # Errors
     ///
@@ -44,29 +44,29 @@ impl InMemory {
         })
     }
 
-    /// Returns who may use which shard, which proved code decides.
+    /// Returns the board. Its proved code decides who may use which shard.
     pub fn board(&self) -> Board<BoxedBody> {
         let board = self.board.read().unwrap_or_else(PoisonError::into_inner);
         board.clone()
     }
 
-    /// Returns how often another board took the place of the one before it.
+    /// Returns how often a new board has replaced the old one.
     pub fn version(&self) -> u64 {
         self.version.load(Ordering::Acquire)
     }
 
-    /// Opens a board on which shards stand as these heads say, and have these bodies; it isn't used yet.
+    /// Opens a board on which shards have the stands in these heads, and these bodies. It isn't in use yet.
     ///
     /// # Errors
     ///
-    /// `NoMemory`, or the first shard that can't stand so.
+    /// `NoMemory`, or the first shard that can't have its stand.
     pub fn open(
         &self,
         heads: &[ShardHead],
         mut bodies: Vec<BoxedBody>,
     ) -> Result<Opened, DumpFault> {
         let keys = bodies.iter_mut().map(|it| it.keys() as u64).collect();
-        // All else was accepted when the server began.
+        // Everything else was accepted when the server began.
         let opened = Board::by_settings(&self.line, bodies);
         let (board, _) = opened.map_err(|_| DumpFault::NoMemory)?;
         restore(&board.control(), heads)?;
@@ -78,8 +78,8 @@ impl InMemory {
         })
     }
 
-    /// Has this board take the place of the one before, of which no thread has a pass, and on which shards had these
-    /// generations. Each shard's generations rise on.
+    /// Replaces the old board by this one. No thread may have a pass of the old board, on which shards had these
+    /// generations. Each shard's generations continue from there.
     pub fn take(&self, opened: Opened, before: &[u64]) {
         let mut board = self.board.write().unwrap_or_else(PoisonError::into_inner);
         *board = opened.board;
@@ -98,17 +98,17 @@ impl InMemory {
         self.bases[usize::from(shard)].load(Ordering::Relaxed)
     }
 
-    /// Returns how many keys of the shard hold something, as was noted last under a permit of it.
+    /// Returns how many keys the shard has, as was noted last under its permit.
     pub fn keys(&self, shard: u16) -> u64 {
         self.keys[usize::from(shard)].load(Ordering::Relaxed)
     }
 
-    /// Returns how many keys of all shards do.
+    /// Returns how many keys all shards have.
     pub fn all_keys(&self) -> u64 {
         self.keys.iter().map(|it| it.load(Ordering::Relaxed)).sum()
     }
 
-    /// Notes how many keys of the shard hold something; for who has its permit.
+    /// Notes how many keys the shard has. The caller must have its permit.
     #[inline]
     pub fn note_keys(&self, shard: u16, keys: usize) {
         let place = &self.keys[usize::from(shard)];

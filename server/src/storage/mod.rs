@@ -1,4 +1,5 @@
-//! Where data lies: in the memory of this process, in a folder, or on etcd. What only one of these has, its type has.
+//! The storage of data: the memory of this process, a folder, or etcd. Functions that only one of these has are on its
+//! own type.
 mod board_records;
 mod etcd;
 mod folder;
@@ -13,26 +14,37 @@ pub use opened::Opened;
 
 use crate::works::Peers;
 use durkenzo_driver::Durable;
+use durkenzo_store::StoreCounts;
 use std::sync::Arc;
 
 /// Where data lies.
 #[derive(Debug)]
 pub enum Storage {
-    /// In the memory of this process, by a board whose passes threads have.
+    /// In the memory of this process, on a board whose passes threads have.
     Memory(Arc<InMemory>),
-    /// In a folder, by a store that this process has for itself.
+    /// In a folder, in a store that only this process uses.
     Folder(InFolder),
-    /// On etcd, by which several processes are one cluster.
+    /// In etcd, through which several processes are one cluster.
     Etcd(OnEtcd),
 }
 
 impl Storage {
-    /// Returns the shards whose data outlives the process, if there are such: requests go to these, and to no board.
+    /// Returns the shards whose data outlives the process, if there are such. Requests then go to these shards, and not
+    /// to a board.
     pub fn durable(&self) -> Option<&Arc<Durable>> {
         match self {
             Storage::Memory(_) => None,
             Storage::Folder(folder) => Some(folder.durable()),
             Storage::Etcd(etcd) => Some(etcd.durable()),
+        }
+    }
+
+    /// Returns the counts of this process's transactions, if there is a store.
+    pub fn counts(&self) -> Option<&StoreCounts> {
+        match self {
+            Storage::Memory(_) => None,
+            Storage::Folder(folder) => Some(folder.counts()),
+            Storage::Etcd(etcd) => Some(etcd.counts()),
         }
     }
 
@@ -44,7 +56,7 @@ impl Storage {
         }
     }
 
-    /// Returns whether keys are counted, and what each server does: only where a board admits threads.
+    /// Returns whether keys and the work of each server are counted. They are only counted if a board admits threads.
     pub fn has_counts(&self) -> bool {
         match self {
             Storage::Memory(_) => true,
@@ -52,7 +64,7 @@ impl Storage {
         }
     }
 
-    /// Returns how many keys of the shard hold something, if they are counted, as was noted last under a permit of it.
+    /// Returns how many keys the shard has, if they are counted, as was noted last under its permit.
     pub fn keys(&self, shard: u16) -> Option<u64> {
         match self {
             Storage::Memory(memory) => Some(memory.keys(shard)),
@@ -60,7 +72,7 @@ impl Storage {
         }
     }
 
-    /// Returns how many keys of all shards do.
+    /// Returns how many keys all shards have, if they are counted.
     pub fn all_keys(&self) -> Option<u64> {
         match self {
             Storage::Memory(memory) => Some(memory.all_keys()),
@@ -68,7 +80,7 @@ impl Storage {
         }
     }
 
-    /// Notes how many keys of the shard hold something, if they are counted; for who has its permit.
+    /// Notes how many keys the shard has, if they are counted. The caller must have its permit.
     pub fn note_keys(&self, shard: u16, keys: usize) {
         match self {
             Storage::Memory(memory) => memory.note_keys(shard, keys),
@@ -76,7 +88,7 @@ impl Storage {
         }
     }
 
-    /// Has no other process ask this one's control any more.
+    /// Stops other processes from asking this one's control.
     pub fn leave_control(&self) {
         match self {
             Storage::Memory(_) | Storage::Folder(_) => {}
@@ -84,7 +96,7 @@ impl Storage {
         }
     }
 
-    /// Leaves the store and the other processes, once each thread of this one has come to its end.
+    /// Leaves the store and the other processes, once each thread of this one has ended.
     pub fn stop(&self) {
         match self {
             Storage::Memory(_) => {}
@@ -97,12 +109,12 @@ impl Storage {
         }
     }
 
-    /// Returns why the store ended, if there is one and it did: nothing more is done.
+    /// Returns why the store has ended, if it has. Then nothing more is done.
     pub fn ended(&self) -> Option<&str> {
         self.durable().and_then(|it| it.ended())
     }
 
-    /// Returns where data lies and what a crash leaves of it, as it is told at the start and in INFO.
+    /// Returns where data lies and what a crash leaves of it, for the log at the start and for INFO.
     pub fn description(&self) -> &'static str {
         match self {
             Storage::Memory(_) => "in memory alone: a crash or a stop loses all data",

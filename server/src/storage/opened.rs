@@ -2,7 +2,7 @@ use crate::body::BoxedBody;
 use durkenzo::Board;
 use std::fmt;
 
-/// A board that isn't used yet.
+/// A board that isn't in use yet.
 pub struct Opened {
     pub(super) board: Board<BoxedBody>,
     pub(super) keys: Vec<u64>,
@@ -11,7 +11,7 @@ pub struct Opened {
 }
 
 impl Opened {
-    /// Returns how many keys hold something.
+    /// Returns how many keys there are.
     pub fn keys(&self) -> u64 {
         self.keys.iter().sum()
     }

@@ -5,7 +5,7 @@ use crate::resp::Replies;
 use durkenzo_control::links::{ForwardedMessage, ForwardedRequest, Reason, ReplySender};
 use durkenzo_driver::{Begin, NotDone, WorkStep};
 
-/// A step of a client of this process, which another process executes.
+/// A client's step that another process executes.
 pub(super) struct ForwardedStep(pub(super) WorkStep);
 
 impl ForwardedRequest for ForwardedStep {
@@ -30,7 +30,7 @@ impl ForwardedRequest for ForwardedStep {
     }
 
     fn refuse_unreached(self, server: u16, why: &str) {
-        // It may have been made when it was asked for before.
+        // It may have been done when it was asked for before.
         if let Begin::Numbered(..) = self.0.begin {
             return self.0.work.end(Err(NotDone::Unknown(why.to_owned())));
         }
@@ -43,7 +43,7 @@ impl ForwardedRequest for ForwardedStep {
 
     fn refuse_unknown(self, server: u16) {
         match self.0.begin {
-            // Another process may have made it when it was asked for before.
+            // Another process may have done it when it was asked for before.
             Begin::Numbered(..) => self.refuse(WireReason::unknown(other_version(server))),
             Begin::Read(_)
             | Begin::Scan(_)
@@ -65,16 +65,16 @@ impl ForwardedRequest for ForwardedStep {
     }
 }
 
-/// Refuses the work that is spelled so, which this server's process doesn't know.
+/// Refuses a work with these bytes, which this server's process doesn't know.
 pub(super) fn refuse_spelled(spelled: &[u8], server: u16, reply: ReplySender<WireReason>) {
     match is_numbered(spelled) {
-        // Another process may have made it when it was asked for before.
+        // Another process may have done it when it was asked for before.
         true => reply.refuse(WireReason::unknown(other_version(server))),
         false => reply.answer(&refusal_of_version(server)),
     }
 }
 
-/// The refusal of a command that the process of this server doesn't know, and nobody made.
+/// Returns the refusal of a command that the process of this server doesn't know, and that no other process did.
 pub(super) fn refusal_of_version(server: u16) -> Vec<u8> {
     let mut refused = Replies::default();
     refused.error(format_args!(
@@ -94,7 +94,7 @@ mod tests {
     use durkenzo_driver::{MapReply, MapRequest, Numbered, Work, WorkOutcome};
     use std::sync::mpsc::{channel, Receiver, Sender};
 
-    /// Work that tells its name and what became of it.
+    /// A work that tells its name and its outcome.
     struct Named(&'static str, Sender<String>);
 
     impl Work for Named {
@@ -121,7 +121,7 @@ mod tests {
         }
     }
 
-    /// A read, a write, a change and a numbered write.
+    /// Returns a read, a write, a change and a numbered write.
     fn forwarded() -> ([ForwardedStep; 4], Receiver<String>) {
         let (tell, told) = channel();
         let numbered = Numbered {
@@ -153,7 +153,7 @@ mod tests {
             ended,
             [format!("write: {unknown}"), format!("change: {unknown}")]
         );
-        // Whoever refuses the numbered write now doesn't know whether it was made.
+        // Whoever refuses the numbered write now doesn't know whether it was done.
         let again = again.into_iter().flatten();
         again.for_each(|it| it.refuse(WireReason::stopped()));
         let stopped = format!("read: {}", NotDone::Stopped);

@@ -11,7 +11,7 @@ use std::io;
 use std::sync::mpsc::SyncSender;
 use std::sync::{Arc, Mutex, MutexGuard, PoisonError, Weak};
 
-/// This server, as the links to other processes know it.
+/// This server, as the links to other processes see it.
 #[derive(Clone)]
 pub(super) struct ServerHost {
     /// This process's server.
@@ -21,17 +21,17 @@ pub(super) struct ServerHost {
     pub(super) control: ControlInlet,
 }
 
-/// Where others' commands for the control of this process go, until it takes no more.
+/// The place for other processes' commands to the control of this process, until it takes no more.
 #[derive(Clone, Default)]
 pub(super) struct ControlInlet(Arc<Mutex<Option<SyncSender<Asked>>>>);
 
 impl ControlInlet {
-    /// Has commands go there, or nowhere any more.
+    /// Sends commands to this control from now on, or to none.
     pub(super) fn set(&self, control: Option<SyncSender<Asked>>) {
         *self.state() = control;
     }
 
-    /// The control, while it takes commands.
+    /// Returns the control, as long as it takes commands.
     pub(super) fn get(&self) -> Option<SyncSender<Asked>> {
         self.state().clone()
     }

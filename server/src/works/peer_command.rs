@@ -6,17 +6,17 @@ use std::fmt;
 /// A command for the control of another process.
 pub(super) struct PeerCommand {
     asked: Asked,
-    /// Where it waits again if nothing is done of it.
+    /// The queue in which it waits again if it wasn't done.
     again: Option<Again>,
 }
 
 impl PeerCommand {
-    /// A command that waits again, if it may, and otherwise is refused.
+    /// Makes a command that waits again if it may, and otherwise is refused.
     pub(super) fn new(asked: Asked, again: Option<Again>) -> PeerCommand {
         PeerCommand { asked, again }
     }
 
-    /// Has the command, of which nothing was done, wait again if it may. Otherwise refuses it.
+    /// Makes the command, which wasn't done, wait again if it may. Otherwise refuses it.
     fn give_back(self, why: impl fmt::Display) {
         let held = match self.again {
             Some(again) => again.hold(self.asked),
@@ -67,7 +67,7 @@ mod tests {
     use std::sync::mpsc::{channel, Receiver};
     use std::time::{Duration, Instant};
 
-    /// A command for the control, which waits until then if nothing is done of it, and where its answer comes.
+    /// Returns a command for the control, which waits until then if it isn't done, and the receiver of its answer.
     fn control(waiting: &Waiting, until: Instant) -> (PeerCommand, Receiver<Vec<u8>>) {
         let (tell, told) = channel();
         let reply_to = ReplyAddress::process(move |bytes| tell.send(bytes).unwrap());

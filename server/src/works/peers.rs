@@ -4,7 +4,7 @@ use super::peer_command::PeerCommand;
 use super::step_destination::StepDestination;
 use crate::cluster::Cluster;
 use crate::control::{Again, Asked};
-use durkenzo_control::links::{LinkCounts, Links, Terms};
+use durkenzo_control::links::{checksum, LinkCounts, Links, Terms};
 use durkenzo_driver::{Durable, Elsewhere, HandOver, Member, WorkStep};
 use std::fmt;
 use std::io;
@@ -21,7 +21,7 @@ pub struct Peers {
 }
 
 impl Peers {
-    /// Returns the peers of this process's server, on these terms. Works wait for so long.
+    /// Makes the peers of this process's server, on these terms. Works wait for so long.
     pub fn new(terms: Terms, member: Arc<Member>, wait: Duration) -> Peers {
         Peers {
             links: Links::new(terms, member, wait),
@@ -39,7 +39,12 @@ impl Peers {
         self.links.leader()
     }
 
-    /// Returns what sends works to the process of the server that executes them.
+    /// Adopts these settings from now on, which have so many servers.
+    pub fn go_by(&self, settings: &[u8], servers: u16) {
+        self.links.go_by(checksum(settings), servers);
+    }
+
+    /// Returns the function that sends works to the process of the server that executes them.
     pub fn hand_over(&self) -> HandOver {
         let links = self.links.clone();
         Box::new(move |elsewhere: Elsewhere, steps: Vec<WorkStep>| {
@@ -48,24 +53,24 @@ impl Peers {
         })
     }
 
-    /// Gives the command to the control in this server's process. If nothing is done of it, the command waits again, if
-    /// it may, and otherwise is refused.
+    /// Gives the command to the control in this server's process. If it isn't done, the command waits again if it may,
+    /// and otherwise is refused.
     pub fn ask_control(&self, server: u16, asked: Asked, again: Option<Again>) {
         let command = PeerCommand::new(asked, again);
         self.links.ask_control(server, command);
     }
 
-    /// Returns how much went between this process and others.
+    /// Returns the counts of the traffic between this process and others.
     pub fn counts(&self) -> &LinkCounts {
         self.links.counts()
     }
 
-    /// Returns how many processes this one has reached, and by how many it was.
+    /// Returns to how many processes this one is connected, and how many are connected to it.
     pub fn connections(&self) -> (usize, usize) {
         self.links.connections()
     }
 
-    /// Begins to answer the processes that connect, by these shards and this control, until it is stopped.
+    /// Begins to answer the processes that connect, with these shards and this control, until it is stopped.
     ///
     /// # Errors
     ///
@@ -84,22 +89,22 @@ impl Peers {
             cluster: Arc::downgrade(cluster),
             control: self.control.clone(),
         };
-        let servers = cluster.configuration.servers;
+        let servers = cluster.presence.servers();
         self.links.begin(listener, servers, host)
     }
 
-    /// Gives the control no further command of others.
+    /// Stops giving other processes' commands to the control.
     pub fn leave_control(&self) {
         self.control.set(None);
     }
 
-    /// Begins nothing more that others ask for, and tells them so.
+    /// Begins nothing more for other processes, and tells them so.
     pub fn close(&self) {
         self.leave_control();
         self.links.close();
     }
 
-    /// Leaves the cluster, so that others give this server's shards owners at once; lets them read their last answers,
+    /// Leaves the cluster, so that others give this server's shards owners at once. Lets them read their last answers,
     /// and ends all connections.
     pub fn leave(&self) {
         self.leave_control();

@@ -2,16 +2,16 @@ use super::WireReason;
 use durkenzo_control::links::ReplySender;
 use durkenzo_driver::{Begin, MapReply, MapRequest, NotDone, Work, WorkOutcome, WorkStep};
 
-/// Work that came from another process, which is told what becomes of it. What is answered the work says by itself.
+/// A work from another process, which is told its outcome. The work itself writes the answer.
 pub(super) struct RemoteWork {
     work: Box<dyn Work>,
-    /// Whether its client gave it a number, by which it may have been made before.
+    /// Whether its client gave it a number, by which it may have been done before.
     is_numbered: bool,
     reply: ReplySender<WireReason>,
 }
 
 impl RemoteWork {
-    /// Returns the step, whose outcome this sends.
+    /// Returns the step. Its outcome is sent to the other process.
     pub(super) fn step(step: WorkStep, reply: ReplySender<WireReason>) -> WorkStep {
         let WorkStep { begin, work } = step;
         let work = Box::new(RemoteWork {
@@ -43,7 +43,8 @@ impl Work for RemoteWork {
     fn end(self: Box<Self>, outcome: WorkOutcome) {
         match outcome {
             Ok(replies) => self.work.end(Ok(replies)),
-            // No code tells another process that, so the client is answered as clients of this process are.
+            // No code tells another process this reason, so the client gets the answer that clients of this process
+            // get.
             Err(NotDone::Crowded) if !self.is_numbered => self.work.end(Err(NotDone::Crowded)),
             Err(why) => self.reply.refuse(WireReason(why)),
         }
@@ -57,7 +58,7 @@ mod tests {
     use durkenzo_driver::Numbered;
     use std::sync::mpsc::{channel, Receiver, Sender};
 
-    /// Work that tells how it ends.
+    /// A work that tells its outcome.
     struct TellingWork(Sender<WorkOutcome>);
 
     impl Work for TellingWork {
@@ -80,7 +81,8 @@ mod tests {
         }
     }
 
-    /// Work of another process that begins so, how it ends by itself, and what the other process is sent.
+    /// Returns a work of another process that begins like this, the receiver of its own outcome, and the receiver of
+    /// what the other process is sent.
     fn received(begin: Begin) -> (Box<dyn Work>, Receiver<WorkOutcome>, SentFrames) {
         let ((tell, told), (reply, frames)) = (channel(), ReplySender::for_test());
         let work = Box::new(TellingWork(tell));

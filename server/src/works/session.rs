@@ -16,16 +16,16 @@ use durkenzo_driver::{NotDone, WorkStep};
 use std::io;
 use std::sync::Arc;
 
-/// What answers one process that has connected.
+/// The session of one process that has connected.
 pub(super) struct WorkSession {
     host: ServerHost,
     keyspace: Keyspace,
-    /// Who the process is.
+    /// The process's identity.
     peer: Identity,
 }
 
 impl WorkSession {
-    /// The session of this process.
+    /// Makes the session of this process.
     pub(super) fn new(host: ServerHost, peer: Identity) -> io::Result<WorkSession> {
         let cluster = host.cluster.upgrade();
         let cluster = cluster.ok_or_else(|| io::Error::other(NotDone::Stopped))?;
@@ -37,8 +37,8 @@ impl WorkSession {
         })
     }
 
-    /// The step of the work that is spelled so. One that isn't known here, as a process of a later version may send it,
-    /// is refused by itself.
+    /// Returns the step of the work with these bytes. A work that isn't known here, because a process of a later
+    /// version sent it, is refused on its own.
     fn step(
         &self,
         (spelled, reply): (&[u8], ReplySender<WireReason>),

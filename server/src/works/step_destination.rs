@@ -2,7 +2,7 @@ use durkenzo_control::links::Destination;
 use durkenzo_driver::{Came, Elsewhere};
 use std::time::Instant;
 
-/// Where the driver sends steps.
+/// The address of steps from the driver.
 #[derive(Clone)]
 pub(super) struct StepDestination(pub(super) Elsewhere);
 

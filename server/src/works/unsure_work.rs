@@ -1,7 +1,7 @@
 use durkenzo_driver::{Begin, MapReply, MapRequest, NotDone, Work, WorkOutcome, WorkStep};
 
-/// A numbered write that a process got which didn't answer: whoever refuses it from now on doesn't know whether it is
-/// made.
+/// A numbered write that was sent to a process which didn't answer. Whoever refuses it from now on doesn't know whether
+/// it was done.
 pub(super) struct UnsureWork {
     work: Box<dyn Work>,
     /// Why the process didn't answer.
@@ -9,7 +9,7 @@ pub(super) struct UnsureWork {
 }
 
 impl UnsureWork {
-    /// Returns the step so, if it writes.
+    /// If the step writes, returns it as such a work; otherwise returns the step as it is.
     pub(super) fn step(step: WorkStep, why: &str) -> WorkStep {
         let WorkStep { begin, work } = step;
         let work = match begin {

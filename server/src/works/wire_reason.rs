@@ -44,7 +44,7 @@ impl Reason for WireReason {
             NotDone::Paused => 1,
             NotDone::Vacant => 2,
             NotDone::Away(_) => 3,
-            // Processes of 0.1.0 don't know the second one: to clients both are a busy shard.
+            // Processes of 0.1.0 don't know the second reason. To clients both are a busy shard.
             NotDone::Busy | NotDone::Crowded => 4,
             NotDone::Damaged(_) => 5,
             NotDone::Full(_) => 6,
@@ -100,7 +100,7 @@ impl Reason for WireReason {
     }
 }
 
-/// The reason of this text: the shard isn't read yet, or something else isn't made.
+/// Returns the reason with this text: the shard isn't read yet, or something else wasn't done.
 fn not_made(text: String) -> NotDone {
     match text == NotDone::Unread.to_string() {
         true => NotDone::Unread,

@@ -3,10 +3,10 @@ use crate::io::{Caller, ReplyAddress};
 use crate::resp::{Protocol, Replies};
 use std::sync::{Arc, Mutex, PoisonError};
 
-/// What is told in place of another process' answer for which there is no memory.
+/// The answer of another process is replaced by this one if there is no memory for it.
 const NO_ROOM: &str = "UNKNOWN memory was refused for the answer: read before you try again";
 
-/// Where parts of a connection's next answer are gathered, which is sent once all are there.
+/// Gathers the parts of a connection's next answer. The answer is sent once all parts are there.
 pub(super) struct Answers {
     protocol: Protocol,
     commands: u64,
@@ -18,14 +18,14 @@ pub(super) struct Answers {
 struct AnswersState {
     parts: Vec<Option<Replies>>,
     left: usize,
-    /// How many bytes were brought.
+    /// How many bytes the parts have so far.
     size: usize,
-    /// Where the answer goes: until it is sent.
+    /// The address of the answer, until it is sent.
     reply_to: Option<ReplyAddress>,
 }
 
 impl AnswersState {
-    /// Takes the part at this place. Where there are more bytes than this, it keeps what is refused alone.
+    /// Takes the part at this place. If the parts have more than `most` bytes in all, it keeps only their refusals.
     fn take(&mut self, place: usize, part: Replies, most: usize) {
         self.left -= 1;
         self.size += part.unsent().len();
@@ -39,7 +39,7 @@ impl AnswersState {
 }
 
 impl Answers {
-    /// Gathers so many parts of the answer to so many commands.
+    /// Makes the answer to so many commands, with so many parts.
     pub(super) fn new(
         parts: usize,
         commands: u64,
@@ -63,17 +63,17 @@ impl Answers {
         })
     }
 
-    /// Who waits for the answer.
+    /// Returns who waits for the answer.
     pub(super) fn caller(&self) -> &Caller {
         &self.caller
     }
 
-    /// An empty part, in the version in which the client is answered.
+    /// Returns an empty part, in the client's version of the protocol.
     pub(super) fn part(&self) -> Replies {
         Replies::new(self.protocol)
     }
 
-    /// Brings the part at this place, once, as another process has written it.
+    /// Adds the part at this place, once, as another process has written it.
     pub(super) fn bring_bytes(&self, place: usize, answer: &[u8]) {
         let mut part = self.part();
         part.append_told(answer);
@@ -84,7 +84,7 @@ impl Answers {
         self.bring(place, part);
     }
 
-    /// Brings the part at this place, once.
+    /// Adds the part at this place, once.
     pub(super) fn bring(&self, place: usize, part: Replies) {
         let mut state = self.state.lock().unwrap_or_else(PoisonError::into_inner);
         state.take(place, part, self.join.most());
@@ -113,7 +113,7 @@ mod tests {
     use crate::resp::MAX_REPLY;
     use std::sync::mpsc::channel;
 
-    /// What is answered where texts of these lengths are brought, the last one first, and the most bytes that are held.
+    /// Adds texts of these lengths, the last one first. Returns the answer, and the most bytes that were held.
     fn told(join: Join, lengths: &[usize]) -> (Vec<u8>, usize) {
         let (tell, told) = channel();
         let reply_to = ReplyAddress::process(move |bytes| tell.send(bytes).unwrap());
@@ -138,7 +138,7 @@ mod tests {
     #[test]
     fn parts_of_one_reply_have_its_bound() {
         let join = Join::Each(Combine::Values, Effect::Reads);
-        // Each text has 10 bytes more as a part of the reply.
+        // As a part of the reply, each text has 10 bytes more.
         let mut lengths = vec![MAX_TEXT; 128];
         lengths[127] = MAX_REPLY - b"*128\r\n".len() - 127 * (MAX_TEXT + 10) - 10;
         let (answer, _) = told(join, &lengths);
@@ -151,7 +151,7 @@ mod tests {
         assert!(held < MAX_REPLY + MAX_TEXT, "{held}");
     }
 
-    /// What a command with a key for each of these parts is answered, but for where its advice begins.
+    /// Returns the answer to a command with a key for each of these parts, up to its advice.
     fn told_of((joined, effect): (Combine, Effect), parts: &[&str]) -> String {
         let (tell, told) = channel();
         let reply_to = ReplyAddress::process(move |bytes| tell.send(bytes).unwrap());

@@ -5,22 +5,24 @@ use crate::resp::{Command, Replies};
 use durkenzo_driver::{Key, MapReply, MapRequest};
 use std::vec;
 
-/// A body that holds nothing. A command is done on it to note what it writes, and once the store has replied to that it
-/// is done again to be answered. So a command which doesn't read is a blind write: one transaction suffices.
+/// A body without keys. A command is done on it once, to note its writes. Once the store has replied to these, the
+/// command is done on it again, to be answered. So a command that doesn't read is a blind write, and takes only one
+/// transaction.
 #[derive(Debug, Default)]
 pub(super) struct BlindBody {
     requests: Vec<MapRequest>,
-    /// What the store replied to the requests, once it has.
+    /// The store's replies to the requests, once there are any.
     replies: Option<vec::IntoIter<MapReply>>,
     has_read: bool,
 }
 
 impl BlindBody {
-    /// Returns what the command of this row writes, whatever its keys hold.
+    /// Returns the requests by which the command of this row writes. They don't depend on the values of its keys.
     ///
     /// # Errors
     ///
-    /// If it reads first or writes nothing: `NotBlind`; and why it is refused, if that is so whatever its keys hold.
+    /// If the command reads first, or writes nothing: `NotBlind`. If it is refused whatever values its keys have: the
+    /// reason.
     pub(super) fn requests_of(spec: &Spec, command: Command<'_>) -> Result<Vec<MapRequest>, Fault> {
         let mut body = BlindBody::default();
         let done = spec.execute(command, &mut body, &mut Replies::default());
@@ -34,7 +36,7 @@ impl BlindBody {
         }
     }
 
-    /// Returns one in which the store has replied so to the command's requests.
+    /// Makes the body that answers the command's requests with the store's replies.
     pub(super) fn replied(replies: Vec<MapReply>) -> BlindBody {
         BlindBody {
             replies: Some(replies.into_iter()),
@@ -42,7 +44,7 @@ impl BlindBody {
         }
     }
 
-    /// Notes the request, or returns what was replied to it.
+    /// Notes the request, or returns the store's reply to it.
     fn make(&mut self, request: impl FnOnce() -> MapRequest) -> Option<MapReply> {
         match &mut self.replies {
             Some(replies) => Some(replies.next().unwrap_or(MapReply::Malformed)),
@@ -53,7 +55,7 @@ impl BlindBody {
         }
     }
 
-    /// Notes that the command reads. What is returned is never told.
+    /// Notes that the command reads. The returned value is never told to anybody.
     fn read<T>(&mut self) -> Result<T, BodyRefusal> {
         self.has_read = true;
         Err(BodyRefusal::WrongKind)
@@ -76,7 +78,7 @@ impl ShardBody for BlindBody {
         if matches!(value, ValueRef::Text(text) if text.len() > MAX_TEXT) {
             return Err(BodyRefusal::TooLong);
         }
-        // It may hold a value of the other kind.
+        // The key may have a value of the other kind.
         self.delete(key);
         self.make(|| {
             let key = Key::from(key);
@@ -93,7 +95,7 @@ impl ShardBody for BlindBody {
             None => Ok(number),
             Some(MapReply::Count(sum)) => Ok(sum),
             Some(MapReply::Overflow) => Err(BodyRefusal::Overflow),
-            // Over a store each text that is a number is a count.
+            // Over a store, each text that is a number is a count.
             Some(_) => Err(BodyRefusal::WrongKind),
         }
     }
@@ -193,7 +195,7 @@ mod tests {
             }
         }
 
-        /// Does the command as over a store: what it answers, and whether it was a blind write.
+        /// Does the command as over a store. Returns its answer, and whether it was a blind write.
         fn execute(&mut self, spec: &Spec, command: Command<'_>) -> (Vec<u8>, bool) {
             let mut answer = Replies::default();
             if let Ok(requests) = BlindBody::requests_of(spec, command) {
@@ -217,7 +219,7 @@ mod tests {
         }
     }
 
-    /// What the key holds, as a client reads it.
+    /// Returns the value of the key, as a client reads it.
     fn text_of(body: &mut ProvedBody, key: &[u8]) -> Option<Vec<u8>> {
         body.get(key).unwrap().map(|it| match it {
             ValueRef::Text(text) => text.to_vec(),
@@ -225,7 +227,7 @@ mod tests {
         })
     }
 
-    /// A command of this row with random arguments.
+    /// Returns a command of this row with random arguments.
     fn some(spec: &Spec, chance: &mut Chance) -> OwnedCommand {
         let more = if spec.arity < 0 { chance.below(4) } else { 0 };
         let count = spec.arity.unsigned_abs() as usize + more;

@@ -3,23 +3,23 @@ use crate::resp::number::Digits;
 use crate::resp::Replies;
 use durkenzo_driver::MapReply;
 
-/// What a shard told of its keys; or the answer that refuses it.
+/// The reply of a shard that was asked for its keys; or the answer that refuses it.
 pub(super) type VisitResult = Result<Findings, Replies>;
 
-/// The first byte of what is told to another process, where it isn't the answer that refuses it.
+/// The first byte of a reply to another process, unless the reply is the answer that refuses it.
 const FOUND: u8 = b'=';
 
-/// What a shard has of the keys that were asked for.
+/// The keys that a shard found.
 #[derive(Debug, Default, PartialEq, Eq)]
 pub(super) struct Findings {
-    /// Keys, with their values where these were asked for.
+    /// Keys, with their values if the query asks for values.
     pub(super) pairs: Vec<OwnedPair>,
-    /// How many keys there are, where that was asked for.
+    /// How many keys there are, if the query asks for that.
     pub(super) count: usize,
 }
 
 impl Findings {
-    /// What a shard replied.
+    /// Returns the findings in a shard's replies.
     pub(super) fn of(replies: Vec<MapReply>) -> Findings {
         let mut found = Findings::default();
         for reply in replies {
@@ -33,7 +33,7 @@ impl Findings {
         found
     }
 
-    /// As another process reads it.
+    /// Returns the bytes that another process reads.
     pub(super) fn spell(&self) -> Vec<u8> {
         let mut bytes = vec![FOUND];
         bytes.extend((self.count as u64).to_be_bytes());
@@ -44,7 +44,8 @@ impl Findings {
         bytes
     }
 
-    /// What another process told so; none where it refused it, or these are no such bytes.
+    /// Reads the bytes of another process. Returns nothing if that process refused the query, or if the bytes are
+    /// malformed.
     pub(super) fn spelled(bytes: &[u8]) -> Option<Findings> {
         let bytes = bytes.strip_prefix(&[FOUND])?;
         let (count, mut rest) = bytes.split_first_chunk()?;
@@ -60,7 +61,7 @@ impl Findings {
     }
 }
 
-/// A text behind its length, and the bytes behind that.
+/// Splits the bytes into a text, which follows its length, and the rest.
 fn text(bytes: &[u8]) -> Option<(&[u8], &[u8])> {
     let (length, rest) = bytes.split_first_chunk()?;
     rest.split_at_checked(u32::from_be_bytes(*length) as usize)

@@ -9,21 +9,21 @@ use crate::resp::Replies;
 use durkenzo_driver::{Key, Range};
 use std::mem;
 
-/// FLUSHDB over shards whose data outlives the process: it finds a few keys at a time and deletes them.
+/// FLUSHDB over shards whose data outlives the process. It finds a few keys at a time and deletes them.
 #[derive(Debug)]
 pub(super) struct Flush {
     shards: u16,
-    /// The keys that are deleted next, and the shard that they are of.
+    /// The keys to delete next, and their shard.
     found: (u16, Vec<Key>),
-    /// The position behind which it looks for more; none once it went over all shards.
+    /// The position from which it looks for more keys. There is none after it has searched all shards.
     next: Option<Position>,
-    /// Whether it deletes what it has found now, and whether it deleted any before.
+    /// Whether it is deleting the found keys now, and whether it has deleted keys before.
     is_deleting: bool,
     has_deleted: bool,
 }
 
 impl Flush {
-    /// Returns that over so many shards.
+    /// Makes the walk over so many shards.
     pub(super) fn new(shards: u16) -> Flush {
         Flush {
             shards,

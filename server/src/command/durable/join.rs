@@ -3,20 +3,20 @@ use crate::command::split::{count_of, Combine};
 use crate::command::Fault;
 use crate::resp::{Replies, MAX_REPLY};
 
-/// How a part begins of which nobody knows whether it is made.
+/// The beginning of a part that doesn't know whether its write was made.
 const UNKNOWN: &[u8] = b"-UNKNOWN ";
 
-/// How parts become an answer.
+/// How the parts become an answer.
 #[derive(Clone, Copy, Debug)]
 pub(super) enum Join {
-    /// One after another: each answers a command, or all.
+    /// One after another: each part answers one command, or there is one part for all.
     InOrder,
-    /// To one command with several keys, which has this effect: each part answers for one of them.
+    /// The answer to one command with several keys, which has this effect. Each part answers for one key.
     Each(Combine, Effect),
 }
 
 impl Join {
-    /// How many bytes the parts may have: with more the answer is surely more than a reply may be.
+    /// Returns how many bytes the parts may have. If they have more, the answer would be longer than a reply may be.
     pub(super) fn most(self) -> usize {
         match self {
             Join::InOrder => usize::MAX,
@@ -24,7 +24,7 @@ impl Join {
         }
     }
 
-    /// The answer of these parts, in their order, beside an empty one. Those that aren't there were too large.
+    /// Joins these parts to an answer, in their order, after an empty one. A part is missing if it was too large.
     pub(super) fn answer(self, parts: Vec<Option<Replies>>, empty: Replies) -> Replies {
         match self {
             Join::InOrder => in_order(parts, empty),
@@ -39,7 +39,7 @@ fn in_order(parts: Vec<Option<Replies>>, empty: Replies) -> Replies {
     parts.fold(first, |mut all, part| {
         let mark = all.mark();
         all.take_over(part);
-        // Only what was read has so long an answer.
+        // Only an answer to reads can be that long.
         if let Err(refused) = all.are_whole() {
             all.take_back(mark);
             all.error(Fault::from(refused));
@@ -48,8 +48,8 @@ fn in_order(parts: Vec<Option<Replies>>, empty: Replies) -> Replies {
     })
 }
 
-/// The answer to the command of which these are for each of its keys: a refusal of one is that of all, unless the
-/// others may have been written.
+/// Joins the parts of one command, one for each of its keys. If one part is a refusal, so is the answer; but if other
+/// parts may have been written, the answer says that the command is done in part.
 fn of_each(
     (joined, effect): (Combine, Effect),
     parts: Vec<Option<Replies>>,
@@ -84,7 +84,7 @@ fn of_each(
     answer
 }
 
-/// Whether what this is the answer to is made, or isn't known not to be.
+/// Returns whether this part's write was made, or may have been made.
 fn may_be_made(part: &Replies) -> bool {
     part.error_count() == 0 || part.unsent().starts_with(UNKNOWN)
 }

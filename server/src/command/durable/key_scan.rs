@@ -9,7 +9,7 @@ use crate::command::wanted::{self, WantedScan};
 use crate::resp::Replies;
 use durkenzo_driver::Range;
 
-/// How many shards a SCAN asks at most, before it gives what there is.
+/// The most shards that a SCAN asks before it answers with the keys that it has found.
 const MOST_ASKED: usize = 64;
 
 /// SCAN over shards whose data outlives the process.
@@ -17,11 +17,11 @@ const MOST_ASKED: usize = 64;
 pub(super) struct KeyScan {
     wanted: WantedScan,
     shards: u16,
-    /// Those that its connection was given last.
+    /// The cursors that its connection was given last.
     cursors: OwnCursors,
-    /// Where it goes on; none where all keys were given.
+    /// The position at which it goes on. There is none once all keys were given.
     next: Option<Position>,
-    /// What is asked for now: how many keys from where on.
+    /// The query under way: from which position on, and how many keys.
     asked: Option<(Position, usize)>,
     found: Vec<Box<[u8]>>,
     seen: usize,
@@ -29,7 +29,7 @@ pub(super) struct KeyScan {
 }
 
 impl KeyScan {
-    /// That of what is wanted from this position on, for a connection with these cursors.
+    /// Makes the scan from this position on, for a connection with these cursors.
     pub(super) fn new(
         wanted: WantedScan,
         next: Position,

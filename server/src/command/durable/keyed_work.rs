@@ -10,8 +10,8 @@ use crate::resp::{Command, OwnedCommand, Replies};
 use durkenzo_driver::{Begin, Key, MapReply, MapRequest, Numbered, Work, WorkOutcome, WorkStep};
 use std::sync::Arc;
 
-/// Returns how the command of this row begins, whose keys are all of one shard. What only reads, or writes whatever was
-/// there, needs one transaction; all else reads first.
+/// Returns how the command of this row begins. Its keys must all be of one shard. A command that only reads, or that
+/// writes whatever values there are, needs one transaction. All others read first.
 fn begin(spec: &Spec, command: Command<'_>) -> Begin {
     let keys = || different(keys_of(spec, command).collect());
     if !spec.effect.writes() {
@@ -23,12 +23,12 @@ fn begin(spec: &Spec, command: Command<'_>) -> Begin {
     }
 }
 
-/// Returns what the command of this row writes if its client numbers it.
+/// Returns the requests by which the command of this row writes, for a command with a client's number.
 ///
 /// # Errors
 ///
-/// If it reads first, so that it isn't the same work each time, or writes more than a shard keeps note of; or why it is
-/// refused whatever its keys hold.
+/// If it reads first, because then it isn't the same work each time; if it writes more than a shard keeps note of; or
+/// the reason why it is refused whatever values its keys have.
 pub(super) fn written_once(spec: &Spec, command: Command<'_>) -> Result<Vec<MapRequest>, Fault> {
     let requests = BlindBody::requests_of(spec, command)?;
     match requests.len() <= Numbered::MOST_REQUESTS {
@@ -37,19 +37,19 @@ pub(super) fn written_once(spec: &Spec, command: Command<'_>) -> Result<Vec<MapR
     }
 }
 
-/// The command's keys, as often as it names them.
+/// Returns the command's keys, as often as it names them.
 fn keys_of<'a>(spec: &Spec, command: Command<'a>) -> impl Iterator<Item = Key> + use<'a> {
     spec.keys.of(command).map(Key::from)
 }
 
-/// The keys, each once.
+/// Returns the keys, each once.
 fn different(mut keys: Vec<Key>) -> Vec<Key> {
     keys.sort_unstable();
     keys.dedup();
     keys
 }
 
-/// The keys that these commands read or write, each once.
+/// Returns the keys that these commands read or write, each once.
 pub(super) fn keys_of_all<'a>(
     commands: impl Iterator<Item = (&'static Spec, &'a OwnedCommand)>,
 ) -> Vec<Key> {
@@ -65,9 +65,9 @@ pub(super) struct KeyedWork {
     begins: BeginKind,
     /// The number that its client gave it, if it did.
     numbered: Option<Numbered>,
-    /// The keys that were read.
+    /// The keys whose values were read.
     keys: Vec<Key>,
-    /// The answer, where it is known before what is written is made.
+    /// The answer, if it is known before the writes are made.
     answer: Option<Replies>,
     answers: Arc<Answers>,
     place: usize,
@@ -81,7 +81,7 @@ enum BeginKind {
 }
 
 impl KeyedWork {
-    /// The step of this command, whose answer is the part at that place.
+    /// Returns the step of this command. Its answer is the part at this place.
     pub(super) fn step(
         (spec, command): (&'static Spec, OwnedCommand),
         shard: u16,
@@ -93,7 +93,7 @@ impl KeyedWork {
             Begin::Read(keys) => (BeginKind::Read, keys.clone()),
             Begin::Change(keys) => (BeginKind::Change, keys.clone()),
             Begin::Write(_) | Begin::Numbered(..) => (BeginKind::Write, Vec::new()),
-            // No command of keys begins so.
+            // No command with keys begins like this.
             Begin::Scan(_) | Begin::Keys(_) | Begin::Count => (BeginKind::Write, Vec::new()),
         };
         let work = KeyedWork {
@@ -113,11 +113,11 @@ impl KeyedWork {
         }
     }
 
-    /// The step of this command, to which its client gave this number, and whose answer is the only part.
+    /// Returns the step of this command, which has a number that its client gave. Its answer is the only part.
     ///
     /// # Errors
     ///
-    /// If it is refused whatever its keys hold, reads them first, or writes too much.
+    /// If it is refused whatever values its keys have, if it reads them first, or if it writes too much.
     pub(super) fn numbered(
         numbered: Numbered,
         (spec, command): (&'static Spec, OwnedCommand),

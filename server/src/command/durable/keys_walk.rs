@@ -11,7 +11,7 @@ use crate::resp::{Protocol, Replies};
 use durkenzo_driver::Range;
 use std::sync::{Arc, Mutex, MutexGuard, PoisonError};
 
-/// How many shards KEYS asks at once: each lane asks one, and then the next that none has asked.
+/// How many shards KEYS asks at once. Each lane asks one shard, and then the next one that no lane has asked.
 pub(super) const MOST_LANES: usize = 16;
 
 /// KEYS over shards whose data outlives the process.
@@ -27,16 +27,16 @@ struct State {
     found: FoundKeys,
     /// The shards that no lane has asked yet.
     shards: std::ops::Range<u16>,
-    /// How many lanes haven't come to their end.
+    /// How many lanes haven't reached their end.
     lanes: usize,
-    /// Whether no lane goes on, as one was refused.
+    /// Whether all lanes stop, because one was refused.
     is_over: bool,
-    /// Who is answered, until that is done.
+    /// The client's address, until the client is answered.
     reply_to: Option<ReplyAddress>,
 }
 
 impl KeysWalk {
-    /// That of what is to be found, over so many shards, for who is answered in this version.
+    /// Makes the walk of this search over so many shards, for a client with this version of the protocol.
     pub(super) fn new(
         found: FoundKeys,
         shards: u16,
@@ -86,7 +86,7 @@ impl KeysWalk {
         self.state.lock().unwrap_or_else(PoisonError::into_inner)
     }
 
-    /// Takes the end of a lane, which tells nothing unless it was refused: then that is answered at once.
+    /// Takes the end of a lane. A lane has an answer only if it was refused: then the client gets that answer at once.
     fn end(&self, told: Replies) {
         let mut state = self.state();
         state.lanes -= 1;
@@ -110,13 +110,13 @@ impl KeysWalk {
     }
 }
 
-/// What goes over shards beside others that do so, and asks those that none of these has asked.
+/// A lane: one of several walks that go on at once. It asks shards that no other lane has asked.
 #[derive(Debug)]
 struct Lane {
     list: KeysWalk,
-    /// Where it goes on in its shard; none if it is to ask another one.
+    /// Where it goes on in its shard. If there is no position, it takes another shard.
     next: Option<Position>,
-    /// Why what it found is refused, if it is.
+    /// Why its findings are refused, if they are.
     fault: Option<Fault>,
 }
 
@@ -139,7 +139,7 @@ impl Walk for Lane {
         let keys: Vec<_> = found.pairs.into_iter().map(|it| it.0).collect();
         let bytes = keys.iter().map(|it| it.len()).sum();
         let next = self.next.take();
-        // Behind the shard another one is asked.
+        // If that was the shard's end, the lane takes another shard.
         self.next = next.and_then(|it| following(it, &keys, Range::MOST, 0));
         let mut state = self.list.state();
         if let Err(fault) = state.found.add(keys, bytes) {
@@ -161,7 +161,7 @@ mod tests {
     use crate::resp::OwnedCommand;
     use std::sync::mpsc::{channel, Receiver};
 
-    /// KEYS over so many shards, and where its answer comes.
+    /// Makes a KEYS over so many shards, and returns the receiver of its answer.
     fn list(shards: u16) -> (KeysWalk, Receiver<Vec<u8>>) {
         let (tell, told) = channel();
         let reply_to = ReplyAddress::process(move |bytes| tell.send(bytes).unwrap());
@@ -197,7 +197,7 @@ mod tests {
         for (lane, shard) in lanes.iter_mut().zip(0..) {
             assert_eq!(asked(lane), Some(shard));
         }
-        // The first one has more keys than it told, and the next one no more.
+        // The first shard has more keys than it has told, and the next shard has no more.
         lanes[0].take(keys(0, Range::MOST));
         assert_eq!(asked(&mut lanes[0]), Some(0));
         lanes[0].take(keys(0, 0));

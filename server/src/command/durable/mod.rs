@@ -1,5 +1,5 @@
-//! Commands over data that outlives the process: what each asks of its shard, and how its answer is made of what the
-//! shard's proved servers reply.
+//! Commands over data that outlives the process: the requests that each command makes of its shard, and how the
+//! command's answer is made from the replies of the shard's proved servers.
 mod answers;
 mod blind_body;
 mod findings;

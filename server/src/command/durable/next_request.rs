@@ -21,19 +21,20 @@ use crate::resp::{number, Command, OwnedCommand, Protocol};
 use durkenzo_driver::Numbered;
 use std::collections::HashSet;
 
-/// How many texts are read at once at most, so that others come to the shard, and the answers have a bound: that of
-/// one command may have more.
+/// The most texts that are read at once, so that others get their turn on the shard, and answers have a bound. One
+/// command may read more.
 const MOST_AT_ONCE: usize = 128;
-/// How often what a command takes or reads lies in memory at once while it is done, at most.
+/// The most copies of a command's arguments and read texts that are in memory at once while it is done.
 const COPIES: usize = 3;
-/// How much memory there has to be beside that, as stores end where they are refused any: more before data takes more.
+/// How much memory must be free besides, because stores end if memory is refused to them. A command by which data may
+/// grow needs more.
 const LEAST_OF_READS: usize = 8 << 20;
 const LEAST_OF_WRITES: usize = 24 << 20;
-/// How many arguments a transaction's commands have at most, beside their names.
+/// The most arguments that a transaction's commands have, beside their names.
 const MOST_ARGUMENTS: usize = 4_096;
 
-/// What the next commands ask of shards whose data outlives the process, and goes behind these; none where the next one
-/// asks nothing of them. Refused is what is only there for data in memory.
+/// Returns what the next commands ask of shards whose data outlives the process, and advances behind these commands.
+/// Returns nothing if the next command asks nothing of shards. Refuses the commands that exist only in memory mode.
 pub fn next_request(
     reader: &mut Reader<'_>,
     session: &mut Session,
@@ -43,7 +44,7 @@ pub fn next_request(
     let Some(command) = reader.peek().ok().filter(|it| !it.is_empty()) else {
         return Ok(None);
     };
-    // Where it is refused, that is found again.
+    // If it is refused, the caller finds the refusal again.
     let asked = match Step::of(session, command, keyspace).ok() {
         Some(Step::Data((spec, shard))) => {
             let commands = run_of(spec, shard, reader, session, keyspace)?;
@@ -67,7 +68,7 @@ pub fn next_request(
     Ok(Some(asked))
 }
 
-/// The next command, and those behind it while they are of the same shard, and read few texts in all.
+/// Returns the next command, and those behind it as long as they are of the same shard and read few texts in all.
 fn run_of(
     mut spec: &'static Spec,
     shard: u16,
@@ -96,14 +97,15 @@ fn run_of(
     Ok(commands)
 }
 
-/// A copy of the command, if there is memory to do it with all that is asked at once, which reads so many texts.
+/// Returns a copy of the command, if there is enough memory to do it with all commands that are asked at once. Together
+/// they read so many texts.
 fn copied(spec: &Spec, command: Command<'_>, texts: usize) -> Result<OwnedCommand, NoRoom> {
     let texts = texts.min(MOST_AT_ONCE);
     memory::has_pieces(room_for(spec.need(), command.size(), texts))?;
     OwnedCommand::copied(command)
 }
 
-/// How much memory has to be free for commands of so many bytes, which need this and read so many texts.
+/// Returns how much memory must be free for commands of so many bytes, which have this need and read so many texts.
 fn room_for(need: Need, bytes: usize, texts: usize) -> usize {
     let read = texts * MAX_TEXT;
     match need {
@@ -113,15 +115,15 @@ fn room_for(need: Need, bytes: usize, texts: usize) -> usize {
     }
 }
 
-/// How much memory has to be free for the commands of EXEC: it reads the text of each of their keys, whatever they do
-/// with it, and its answer has those that they ask for, up to the size of a reply.
+/// Returns how much memory must be free for the commands of EXEC. It reads the text of each of their keys, even if a
+/// command only writes it. Its answer has the texts that the commands ask for, up to the size of a reply.
 fn room_for_exec(transaction: &MultiTransaction) -> usize {
     let told = transaction.texts_told().min(MOST_AT_ONCE);
     let texts = keys_of_all(transaction.data()).len().max(told);
     room_for(transaction.need(), transaction.size(), texts)
 }
 
-/// The command of this row by its keys, which are of several shards.
+/// Returns the command of this row by its keys, which are of several shards.
 fn each(
     spec: &'static Spec,
     command: Command<'_>,
@@ -138,7 +140,7 @@ fn each(
     Ok(ShardRequest::each(protocol, (spec, split), parts))
 }
 
-/// The command of this row for each of the keys by itself.
+/// Returns the command of this row for each of the keys by itself.
 fn keys(
     part: &'static Spec,
     command: Command<'_>,
@@ -151,8 +153,8 @@ fn keys(
     command.from(1).iter().map(of_key).collect()
 }
 
-/// The command of this row for each key with its value. Parts may be done in any order, so each key has one, with its
-/// last value.
+/// Returns the command of this row for each key with its value. Parts may be done in any order, so each key has one,
+/// with its last value.
 fn pairs(
     part: &'static Spec,
     command: Command<'_>,
@@ -173,7 +175,7 @@ fn pairs(
     Ok(parts)
 }
 
-/// What a command that needs no shard by itself asks of one, as EXEC does.
+/// Returns what a command that isn't bound to one shard by its keys asks of shards, as EXEC does.
 fn asked_by(
     spec: &Spec,
     command: Command<'_>,
@@ -182,7 +184,7 @@ fn asked_by(
     protocol: Protocol,
 ) -> Result<Option<ShardRequest>, Fault> {
     match spec.word {
-        // Over shards nothing goes within a transaction, which is told where that is.
+        // In a transaction no command goes over all shards. The refusal is made elsewhere.
         Word::Scan | Word::ScanRange | Word::Keys | Word::Flush
             if session.transaction.is_some() =>
         {
@@ -210,12 +212,12 @@ fn asked_by(
             memory::has_pieces(room_for_exec(&transaction))?;
             Ok(Some(ShardRequest::exec(protocol, shard, transaction)))
         }
-        // Of these nothing is asked of shards.
+        // These ask nothing of shards.
         Word::Data(_) | Word::Talk(_) | Word::Multi | Word::Discard | Word::Control => Ok(None),
     }
 }
 
-/// What SCAN asks from its cursor on.
+/// Returns the walk of SCAN, from its cursor on.
 fn scan(
     command: Command<'_>,
     (cursors, own): (&Cursors, &OwnCursors),
@@ -230,7 +232,7 @@ fn scan(
     Ok(ShardRequest::walk(protocol, Box::new(walk)))
 }
 
-/// What SCANRANGE asks.
+/// Returns the walk of SCANRANGE.
 fn range(
     command: Command<'_>,
     keyspace: &Keyspace,
@@ -241,14 +243,14 @@ fn range(
     Ok(ShardRequest::walk(protocol, Box::new(walk)))
 }
 
-/// What KEYS asks.
+/// Returns the search of KEYS.
 fn key_list(command: Command<'_>, protocol: Protocol) -> Result<ShardRequest, Fault> {
     let keys = MOST_FOUND + MOST_LANES * MAX_PAIRS;
     memory::has_pieces(LEAST_OF_READS + COPIES * keys * MAX_KEY)?;
     Ok(ShardRequest::keys(protocol, FoundKeys::new(command)?))
 }
 
-/// What FLUSHDB asks.
+/// Returns the walk of FLUSHDB.
 fn flush(
     command: Command<'_>,
     keyspace: &Keyspace,
@@ -262,7 +264,7 @@ fn flush(
     ))
 }
 
-/// What `SM CALL client number COMMAND ..` asks: the command once, however often it is asked for.
+/// Returns the request of `SM CALL client number COMMAND ..`, which does the command once, however often it is sent.
 fn called(
     command: Command<'_>,
     session: &Session,
@@ -293,7 +295,7 @@ fn called(
     ))
 }
 
-/// Whether a transaction may have the command: one with keys, or that is answered from itself.
+/// Checks that a transaction may have the command: that is one with keys, or one that needs no shard.
 fn may_queue(command: Command<'_>) -> Result<(), Fault> {
     match Spec::queued(command)?.queued {
         InMulti::Always => Ok(()),
@@ -309,7 +311,7 @@ mod tests {
     use crate::keyspace::Rule;
     use crate::resp::Arguments;
 
-    /// What the parts of a line are, where keys from m on are of another shard than those before.
+    /// Returns the parts of a line. Keys from m on are of another shard than those before.
     fn told(line: &str) -> String {
         let keyspace = Keyspace::new(&Rule::Bounds(vec![Vec::new(), b"m".to_vec()])).unwrap();
         let mut arguments = Arguments::default();
@@ -381,13 +383,13 @@ mod tests {
         };
         assert_eq!(texts(&[line("GET a"), line("SET b 1"), line("PING")]), 2);
         assert_eq!(texts(&vec![line("SET a 1"); 40]), 1);
-        // What is written over is read too.
+        // A text that is written over is read, too.
         assert_eq!(texts(&[keys("MSET", 60, " v")]), 60);
         assert_eq!(texts(&[keys("MGET", 300, ""), keys("MGET", 300, "")]), 300);
         assert_eq!(texts(&vec![line("GET a"); 500]), MOST_AT_ONCE);
     }
 
-    /// How many of many such lines are asked at once.
+    /// Returns how many of many such lines are asked at once.
     fn taken(line: &str) -> usize {
         let keyspace = Keyspace::new(&Rule::Hash(1)).unwrap();
         let (cursors, mut session) = (Cursors::default(), Session::new(1, true));

@@ -1,11 +1,11 @@
-//! What keys held when they were read, in a proved map of the library, on which a command is done as on a shard's; and
-//! what is then to be written.
+//! A proved map of the library with the values that keys had when they were read. A command is done on it as on a
+//! shard's own body. The differences are then written to the store.
 use crate::body::{BodyReply, BodyRequest, ProvedBody, ShardBody, ValueRef};
 use crate::command::Fault;
 use crate::resp::number;
 use durkenzo_driver::{Key, MapReply, MapRequest};
 
-/// A map with what these keys held.
+/// Returns a map in which these keys have these values.
 pub(super) fn loaded(keys: &[Key], held: &[MapReply]) -> Result<ProvedBody, Fault> {
     let mut body = ProvedBody::new().map_err(|_| Fault::NoMemory)?;
     for (key, held) in keys.iter().zip(held) {
@@ -21,7 +21,7 @@ pub(super) fn loaded(keys: &[Key], held: &[MapReply]) -> Result<ProvedBody, Faul
     Ok(body)
 }
 
-/// The requests by which each of the keys, which differ, comes to hold what it holds in the map.
+/// Returns the requests that give each of the keys, which differ, the value that it has in the map.
 pub(super) fn changes(body: &mut ProvedBody, keys: &[Key], held: &[MapReply]) -> Vec<MapRequest> {
     let each = keys.iter().zip(held);
     each.flat_map(|(key, before)| match body.apply(BodyRequest::Get(key)) {
@@ -32,7 +32,7 @@ pub(super) fn changes(body: &mut ProvedBody, keys: &[Key], held: &[MapReply]) ->
         BodyReply::Value(ValueRef::Count(count)) => to_count(key, before, count),
         BodyReply::Nothing if *before == MapReply::Nothing => Vec::new(),
         BodyReply::Nothing => vec![MapRequest::Delete(key.clone())],
-        // A read is answered by what the key holds, or by nothing: of anything else nothing is written.
+        // A read is answered with the key's value, or with nothing. After any other reply nothing is written.
         BodyReply::Done
         | BodyReply::Length(_)
         | BodyReply::Count(_)

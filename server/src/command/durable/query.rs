@@ -2,26 +2,26 @@ use crate::body::MAX_KEY;
 use crate::command::latest::Position;
 use durkenzo_driver::{Begin, Range};
 
-/// Kinds of queries, as they are spelled.
+/// Kinds of queries, as they are encoded.
 const KEYS: u8 = b'k';
 const PAIRS: u8 = b'p';
 const COUNT: u8 = b'c';
 
-/// What is asked of the keys of one shard.
+/// A question about the keys of one shard.
 #[derive(Clone, Debug, PartialEq, Eq)]
 pub(super) enum Query {
     /// The first keys of a range.
     Keys(Range),
-    /// The same, with what they hold.
+    /// The first pairs of a range.
     Pairs(Range),
-    /// How many there are.
+    /// How many keys there are.
     Count,
 }
 
 impl Query {
-    /// Returns that of so many keys behind the position.
+    /// Returns the query for so many keys behind the position.
     pub(super) fn keys_behind(position: &Position, most: usize) -> Query {
-        // The least key above another one is that with a byte of 0 behind it.
+        // The least key above a key is that key with a zero byte appended.
         let after = position.after.as_deref();
         let low = after.map_or_else(Vec::new, |it| [it, &[0]].concat());
         Query::Keys(Range {
@@ -31,7 +31,7 @@ impl Query {
         })
     }
 
-    /// How it begins.
+    /// Returns how the query begins.
     pub(super) fn begin(&self) -> Begin {
         match self {
             Query::Keys(range) => Begin::Keys(range.clone()),
@@ -40,7 +40,7 @@ impl Query {
         }
     }
 
-    /// Its bytes.
+    /// Returns its bytes.
     pub(super) fn spell(&self) -> Vec<u8> {
         let (kind, range) = match self {
             Query::Keys(range) => (KEYS, range),
@@ -56,7 +56,7 @@ impl Query {
         bytes
     }
 
-    /// The query that is spelled so; none where these aren't the bytes of one.
+    /// Returns the query with these bytes, or nothing if the bytes are malformed.
     pub(super) fn spelled(bytes: &[u8]) -> Option<Query> {
         let (kind, rest) = bytes.split_first()?;
         if (*kind, rest) == (COUNT, &[]) {
@@ -78,14 +78,14 @@ impl Query {
 /// A bound, if there is one, and the bytes behind it.
 type ReadBound<'a> = (Option<Box<[u8]>>, &'a [u8]);
 
-/// The length of a bound that there isn't.
+/// The length that stands for a missing bound.
 const NONE: u16 = u16::MAX;
 
 fn bound(bytes: &[u8]) -> Option<ReadBound<'_>> {
     let (length, rest) = bytes.split_first_chunk()?;
     match u16::from_be_bytes(*length) {
         NONE => Some((None, rest)),
-        // What comes behind a key may have a byte more.
+        // The least key behind a key has one byte more than that key.
         length if usize::from(length) <= MAX_KEY + 1 => {
             let (bound, rest) = rest.split_at_checked(length.into())?;
             Some((Some(bound.into()), rest))

@@ -14,7 +14,7 @@ use std::ops::RangeInclusive;
 pub(super) struct RangeScan {
     low: Box<[u8]>,
     high: Option<Box<[u8]>>,
-    /// Those that aren't asked yet.
+    /// The shards that weren't asked yet.
     shards: RangeInclusive<u16>,
     /// Whether each shard's keys lie below those of the next one.
     is_ordered: bool,
@@ -22,7 +22,7 @@ pub(super) struct RangeScan {
 }
 
 impl RangeScan {
-    /// That of what is wanted, over the shards that may have it.
+    /// Makes the scan for the wanted range, over the shards that may have keys of it.
     pub(super) fn new(wanted: &WantedRange<'_>, keyspace: &Keyspace) -> RangeScan {
         RangeScan {
             low: wanted.low.into(),

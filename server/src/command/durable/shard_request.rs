@@ -21,7 +21,7 @@ use std::sync::Arc;
 /// The command for one key of several, with its row and the key's shard.
 pub(super) type CommandPart = (u16, &'static Spec, OwnedCommand);
 
-/// What a connection asks of shards whose data outlives the process, in the version in which it is answered.
+/// A connection's request to shards whose data outlives the process, in the client's version of the protocol.
 #[derive(Debug)]
 pub struct ShardRequest {
     protocol: Protocol,
@@ -32,22 +32,22 @@ pub struct ShardRequest {
 enum What {
     /// Commands with keys of this shard, one after another.
     Keyed(u16, Vec<(&'static Spec, OwnedCommand)>),
-    /// A command with keys of this shard, to which its client gave this number.
+    /// A command with keys of this shard, which has a number that its client gave.
     Numbered(u16, Numbered, (&'static Spec, OwnedCommand)),
     /// One command with keys of several shards, each by itself.
     Each(&'static Spec, Split, Vec<CommandPart>),
     /// The commands of EXEC.
     Exec(u16, Box<MultiTransaction>),
-    /// What goes over shards, one after another.
+    /// A walk over shards, one after another.
     Walk(Box<dyn Walk>),
-    /// The keys of all shards, of which several are asked at once.
+    /// KEYS, which searches several shards at once.
     Keys(FoundKeys),
-    /// How many keys all shards have.
+    /// The number of keys of all shards.
     Count,
 }
 
 impl ShardRequest {
-    /// These commands, all of this shard.
+    /// Makes the request of these commands, all of this shard.
     pub(in crate::command) fn keyed(
         protocol: Protocol,
         shard: u16,
@@ -57,7 +57,7 @@ impl ShardRequest {
         ShardRequest { protocol, what }
     }
 
-    /// A command of this shard, to which its client gave this number.
+    /// Makes the request of a command of this shard, which has a number that its client gave.
     pub(in crate::command) fn numbered(
         protocol: Protocol,
         shard: u16,
@@ -68,7 +68,7 @@ impl ShardRequest {
         ShardRequest { protocol, what }
     }
 
-    /// Returns that of a command which is split so, by the commands for its keys.
+    /// Makes the request of a command that is split: one command for each of its keys.
     pub(super) fn each(
         protocol: Protocol,
         (spec, split): (&'static Spec, Split),
@@ -78,7 +78,7 @@ impl ShardRequest {
         ShardRequest { protocol, what }
     }
 
-    /// The commands of EXEC, all of this shard.
+    /// Makes the request of EXEC, whose commands are all of this shard.
     pub(in crate::command) fn exec(
         protocol: Protocol,
         shard: u16,
@@ -88,25 +88,25 @@ impl ShardRequest {
         ShardRequest { protocol, what }
     }
 
-    /// What goes over shards, one after another.
+    /// Makes the request of a walk over shards, one after another.
     pub(super) fn walk(protocol: Protocol, walk: Box<dyn Walk>) -> ShardRequest {
         let what = What::Walk(walk);
         ShardRequest { protocol, what }
     }
 
-    /// The keys of all shards that are found so.
+    /// Makes the request of KEYS, for this search.
     pub(super) fn keys(protocol: Protocol, found: FoundKeys) -> ShardRequest {
         let what = What::Keys(found);
         ShardRequest { protocol, what }
     }
 
-    /// How many keys all shards have.
+    /// Makes the request of the number of keys of all shards.
     pub(super) fn count(protocol: Protocol) -> ShardRequest {
         let what = What::Count;
         ShardRequest { protocol, what }
     }
 
-    /// Asks it, and has the answer be sent there.
+    /// Submits the request, and has the answer sent to this address.
     pub fn submit(self, durable: &Durable, cluster: &Arc<Cluster>, reply_to: ReplyAddress) {
         let protocol = self.protocol;
         let in_order =
@@ -144,7 +144,7 @@ impl ShardRequest {
     }
 }
 
-/// Has the shard do the command with its number, unless it can't have one.
+/// Has the shard do the numbered command, unless the command can't have a number.
 fn submit_numbered(
     durable: &Durable,
     shard: u16,
@@ -162,7 +162,8 @@ fn submit_numbered(
     }
 }
 
-/// Has each shard do the parts of a command that are its own. They are one run there, so they have one client's turn.
+/// Has each shard do its parts of a command. The parts of one shard are one run there, so they take only one client's
+/// turn.
 fn submit_each(durable: &Durable, parts: Vec<CommandPart>, answers: &Arc<Answers>) {
     let mut of_shards = BTreeMap::<_, Vec<_>>::new();
     for (place, (shard, part, command)) in parts.into_iter().enumerate() {
@@ -174,7 +175,7 @@ fn submit_each(durable: &Durable, parts: Vec<CommandPart>, answers: &Arc<Answers
     }
 }
 
-/// Has all shards count their keys, each by itself.
+/// Has each shard count its keys.
 fn count(durable: &Durable, protocol: Protocol, reply_to: ReplyAddress) {
     let shards = durable.shards();
     let join = Join::Each(Combine::Sum, Effect::Reads);

@@ -7,10 +7,10 @@ use crate::io::{Caller, ReplyAddress};
 use crate::resp::{OwnedCommand, Protocol, Replies};
 use durkenzo_driver::{Key, MapReply, MapRequest, Work, WorkOutcome, WorkStep};
 
-/// Who is told of what a shard has. It must not wait.
+/// The callback that gets the shard's findings. It must not wait.
 pub(super) type Then = Box<dyn FnOnce(VisitResult) + Send>;
 
-/// What is asked of one shard's keys.
+/// A query of one shard's keys, or their deletion.
 pub(super) struct ShardVisit {
     visit: Visit,
     shard: u16,
@@ -20,7 +20,7 @@ pub(super) struct ShardVisit {
 }
 
 impl ShardVisit {
-    /// The step of this visit, which this client waits for, who is answered in this version.
+    /// Returns the step of this visit, for the client who waits for it and that client's version of the protocol.
     pub(super) fn step(
         visit: Visit,
         shard: u16,
@@ -41,7 +41,7 @@ impl ShardVisit {
         }
     }
 
-    /// The step of a query that another process asks, which is told there what this one has.
+    /// Returns the step of another process's query. The findings are sent to that process.
     pub(super) fn told_to(
         query: Query,
         shard: u16,
@@ -81,7 +81,7 @@ impl Work for ShardVisit {
     fn answered(self: Box<Self>, answer: &[u8]) {
         let found = match &self.visit {
             Visit::Query(_) => Findings::spelled(answer),
-            // The number of keys that were deleted.
+            // The answer is the number of deleted keys.
             Visit::Delete(_) => answer.starts_with(b":").then(Findings::default),
         };
         let told = found.ok_or_else(|| {
@@ -105,7 +105,7 @@ impl Work for ShardVisit {
     }
 }
 
-/// The command that deletes these keys, which each version of the table has.
+/// Returns the command that deletes these keys. Each version of the table has it.
 fn deletion(keys: &[Key]) -> OwnedCommand {
     let words: Vec<&[u8]> = [&b"DEL"[..]]
         .into_iter()

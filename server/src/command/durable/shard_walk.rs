@@ -9,34 +9,34 @@ use std::fmt;
 use std::mem;
 use std::sync::{Arc, Mutex, PoisonError};
 
-/// What goes over shards, one after another.
+/// A walk over shards, one after another.
 pub(super) trait Walk: fmt::Debug + Send {
-    /// The shard that is asked next, and what; none where nothing more is to be asked.
+    /// Returns the next shard to visit, and the visit; or nothing at the end of the walk.
     fn next(&mut self) -> Option<(u16, Visit)>;
 
-    /// Takes what that shard has.
+    /// Takes the findings of that shard.
     fn take(&mut self, found: Findings);
 
-    /// Returns what is answered if a shard refused it so.
+    /// Returns the client's answer if a shard refused with this answer.
     fn refused(&self, refused: Replies) -> Replies {
         refused
     }
 
-    /// Answers, where each shard that was asked has told what it has.
+    /// Writes the answer. Each shard that was visited has told its findings before.
     fn answer(self: Box<Self>, cluster: &Cluster, answer: &mut Replies);
 }
 
-/// What a walk asks of a shard.
+/// A visit of a walk at one shard.
 #[derive(Debug)]
 pub(super) enum Visit {
-    /// Tell of its keys.
+    /// Tells of the shard's keys.
     Query(Query),
-    /// Delete these.
+    /// Deletes these keys.
     Delete(Vec<Key>),
 }
 
 impl Visit {
-    /// How it begins.
+    /// Returns how the visit begins.
     pub(super) fn begin(&self) -> Begin {
         match self {
             Visit::Query(query) => query.begin(),
@@ -47,10 +47,10 @@ impl Visit {
     }
 }
 
-/// Who is told what a walk came to. It must not wait.
+/// The callback that gets the walk's answer. It must not wait.
 pub(super) type End = Box<dyn FnOnce(Replies) + Send>;
 
-/// A walk that is under way for a client, who is answered in this version.
+/// A walk under way for a client, with the client's version of the protocol.
 pub(super) struct Walker {
     pub(super) walk: Box<dyn Walk>,
     pub(super) cluster: Arc<Cluster>,
@@ -59,7 +59,7 @@ pub(super) struct Walker {
     pub(super) end: End,
 }
 
-/// Where a walk and what a shard tells meet, whichever comes first.
+/// The place at which the walk and a shard's findings meet, whichever comes first.
 enum Meeting {
     Nobody,
     Told(VisitResult),
@@ -67,7 +67,7 @@ enum Meeting {
 }
 
 impl Walker {
-    /// The whole walk of a client, who is answered by it.
+    /// Makes the walk of a client, who gets its answer.
     pub(super) fn new(
         walk: Box<dyn Walk>,
         cluster: &Arc<Cluster>,
@@ -83,7 +83,7 @@ impl Walker {
         }
     }
 
-    /// Asks shard after shard; where one takes its time, its answer goes on with it.
+    /// Visits shard after shard. If a shard takes its time, the walk goes on once that shard has told its findings.
     pub(super) fn go_on(mut self) {
         while let Some((shard, visit)) = self.walk.next() {
             let meeting = Arc::new(Mutex::new(Meeting::Nobody));
@@ -126,7 +126,7 @@ impl Walker {
         }
     }
 
-    /// Takes what a shard told; none where the walk is over by that, as it is refused.
+    /// Takes a shard's findings. Returns nothing if that ends the walk, because the shard refused.
     fn took(mut self, told: VisitResult) -> Option<Walker> {
         match told {
             Ok(found) => {

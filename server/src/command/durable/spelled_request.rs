@@ -1,5 +1,5 @@
-//! How works are spelled for another process: the version in which the client is answered, what kind of work it is, and
-//! its commands as a client sends them.
+//! The encoding of works for another process: the client's version of the protocol, the kind of work, and its commands
+//! as a client sends them.
 use super::answers::Answers;
 use super::join::Join;
 use super::keyed_work::{keys_of_all, KeyedWork};
@@ -18,12 +18,12 @@ use crate::resp::{Command, OwnedCommand, Protocol};
 use durkenzo_driver::{Numbered, WorkStep};
 use std::sync::Arc;
 
-/// A kind of works, which stands behind the version.
+/// The kind of a work. Its byte follows the version.
 #[derive(Clone, Copy, Debug, PartialEq, Eq)]
 enum WorkKind {
     /// A command with keys of one shard.
     Keyed,
-    /// The same, with its client's number.
+    /// A command with keys of one shard, with its client's number.
     Numbered,
     /// The commands of EXEC.
     Exec,
@@ -39,7 +39,7 @@ impl WorkKind {
         WorkKind::Query,
     ];
 
-    /// The byte that it is spelled by.
+    /// Returns the byte of this kind.
     fn byte(self) -> u8 {
         match self {
             WorkKind::Keyed => b'k',
@@ -49,7 +49,7 @@ impl WorkKind {
         }
     }
 
-    /// The version, the kind of the work that is spelled so, and what follows; none where it is of no kind.
+    /// Splits the bytes of a work into the version, the kind and the rest. Returns nothing if the kind is unknown.
     fn of(bytes: &[u8]) -> Option<(u8, WorkKind, &[u8])> {
         let ([version, byte], rest) = bytes.split_first_chunk()?;
         let kind = WorkKind::ALL.into_iter().find(|it| it.byte() == *byte)?;
@@ -57,7 +57,7 @@ impl WorkKind {
     }
 }
 
-/// A command with keys of one shard.
+/// Returns the bytes of a command with keys of one shard.
 pub(super) fn spell_keyed(
     protocol: Protocol,
     numbered: Option<Numbered>,
@@ -76,7 +76,7 @@ pub(super) fn spell_keyed(
     bytes
 }
 
-/// The commands of EXEC.
+/// Returns the bytes of EXEC's commands.
 pub(super) fn spell_exec(protocol: Protocol, transaction: &MultiTransaction) -> Vec<u8> {
     let mut bytes = vec![version_of(protocol), WorkKind::Exec.byte()];
     for command in transaction.commands() {
@@ -85,7 +85,7 @@ pub(super) fn spell_exec(protocol: Protocol, transaction: &MultiTransaction) -> 
     bytes
 }
 
-/// A query of a shard's keys.
+/// Returns the bytes of a query of a shard's keys.
 pub(super) fn spell_query(protocol: Protocol, query: &Query) -> Vec<u8> {
     let mut bytes = vec![version_of(protocol), WorkKind::Query.byte()];
     bytes.extend(query.spell());
@@ -99,7 +99,8 @@ fn version_of(protocol: Protocol) -> u8 {
     }
 }
 
-/// The step of a work that another process spelled so for this shard, which is answered there; none where it isn't one.
+/// Returns the step of another process's work on this shard, which is answered there. Returns nothing if the bytes are
+/// malformed.
 pub fn step_of_spelled(
     bytes: &[u8],
     shard: u16,
@@ -143,12 +144,12 @@ pub fn step_of_spelled(
     }
 }
 
-/// Whether the work that is spelled so has a number of its client, by which it may have been made before.
+/// Returns whether the work with these bytes has its client's number, by which it may have been done before.
 pub fn is_numbered(bytes: &[u8]) -> bool {
     matches!(WorkKind::of(bytes), Some((_, WorkKind::Numbered, _)))
 }
 
-/// What the commands of the work do that is spelled so; none in the place of one that isn't known.
+/// Returns the row of each command of the work with these bytes; nothing in place of a command that isn't known.
 fn specs_of(bytes: &[u8]) -> impl Iterator<Item = Option<&'static Spec>> + '_ {
     let mut rest = commands_of(bytes);
     std::iter::from_fn(move || {
@@ -159,13 +160,13 @@ fn specs_of(bytes: &[u8]) -> impl Iterator<Item = Option<&'static Spec>> + '_ {
     })
 }
 
-/// The first version of the table of commands that has all commands of the work that is spelled so.
+/// Returns the first version of the table of commands that has all commands of the work with these bytes.
 pub fn table_of_spelled(bytes: &[u8]) -> u16 {
     let tables = specs_of(bytes).map(|it| it.map_or(TABLE, |it| it.since));
     tables.max().unwrap_or(FIRST_TABLE)
 }
 
-/// Refuses the work that is spelled so, if it may have data take more memory and too much is in use.
+/// Refuses the work with these bytes if its data may take more memory and too much is in use.
 pub fn check_memory_of(bytes: &[u8]) -> Result<(), Fault> {
     if !CEILING.is_passed() {
         return Ok(());
@@ -178,7 +179,7 @@ pub fn check_memory_of(bytes: &[u8]) -> Result<(), Fault> {
     })
 }
 
-/// The commands of the work that is spelled so, one behind the other; nothing where it has none.
+/// Returns the commands of the work with these bytes, one behind the other; or no bytes if it has none.
 fn commands_of(bytes: &[u8]) -> &[u8] {
     let found = WorkKind::of(bytes).and_then(|(_, kind, rest)| match kind {
         WorkKind::Keyed | WorkKind::Exec => Some(rest),
@@ -188,7 +189,7 @@ fn commands_of(bytes: &[u8]) -> &[u8] {
     found.unwrap_or_default()
 }
 
-/// The number that a client gave, and what follows it.
+/// Returns the number that a client gave, and what follows it.
 fn number_of(bytes: &[u8]) -> Option<(Numbered, &[u8])> {
     let (client, rest) = bytes.split_first_chunk()?;
     let (number, rest) = rest.split_first_chunk()?;
@@ -196,7 +197,7 @@ fn number_of(bytes: &[u8]) -> Option<(Numbered, &[u8])> {
     Some((Numbered { client, number }, rest))
 }
 
-/// The command with keys of this shard alone.
+/// Returns the command, if all its keys are of this shard.
 fn command_of(
     bytes: &[u8],
     shard: u16,
@@ -208,7 +209,7 @@ fn command_of(
     (shards == KeyShards::One(shard)).then_some((spec, command))
 }
 
-/// The transaction whose keys are of this shard alone.
+/// Returns the transaction, if all its keys are of this shard.
 fn transaction_of(bytes: &[u8], shard: u16, keyspace: &Keyspace) -> Option<Box<MultiTransaction>> {
     let (mut transaction, mut rest) = (Box::<MultiTransaction>::default(), bytes);
     while !rest.is_empty() {
@@ -310,7 +311,7 @@ mod tests {
         ] {
             assert_eq!(table_of_spelled(&bytes), 3);
         }
-        // What FLUSHDB has other processes do is older than FLUSHDB.
+        // The commands by which FLUSHDB deletes at other processes are older than FLUSHDB.
         let deletion = spell_keyed(Protocol::Two, None, &command(&["DEL", "a", "b"]));
         assert_eq!(table_of_spelled(&deletion), FIRST_TABLE);
         let of_all = spelled.iter().chain([&listing]);
@@ -340,7 +341,7 @@ mod tests {
         for bytes in wrong {
             assert!(place.step(&bytes, 0).is_none(), "{bytes:?}");
         }
-        // Numbered is what writes without reading first alone.
+        // Only a command that writes without reading first can be numbered.
         let numbered = Numbered {
             client: 1,
             number: 1,

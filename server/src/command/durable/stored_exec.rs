@@ -9,10 +9,11 @@ use crate::resp::Replies;
 use durkenzo_driver::{Begin, Key, MapReply, MapRequest, NotDone, Work, WorkOutcome, WorkStep};
 use std::sync::Arc;
 
-/// How many requests a transaction's writes may be: of a key one or two.
+/// The most requests that a transaction's writes may be. A key takes one or two.
 const MOST_WRITES: usize = 2_048;
 
-/// The commands of EXEC, whose keys are all of one shard: they are done on what these held, and written at once.
+/// The commands of EXEC, whose keys are all of one shard. They are done on the values that the keys had, and written at
+/// once.
 pub(super) struct StoredExec {
     transaction: Box<MultiTransaction>,
     cluster: Arc<Cluster>,
@@ -23,7 +24,7 @@ pub(super) struct StoredExec {
 }
 
 impl StoredExec {
-    /// The step of this transaction, which is the whole answer.
+    /// Returns the step of this transaction. Its answer is the only part.
     pub(super) fn step(
         transaction: Box<MultiTransaction>,
         cluster: Arc<Cluster>,
@@ -49,9 +50,9 @@ impl StoredExec {
     fn requests(&self, held: &[MapReply], answer: &mut Replies) -> Result<Vec<MapRequest>, Fault> {
         let mut body = loaded(&self.keys, held)?;
         let mark = answer.mark();
-        // What it changes is always told.
+        // A change must be answered truly, so there must be room for the answer.
         answer.keep_room(self.transaction.len() as usize)?;
-        // What is queued over a store needs nothing of its connection.
+        // A command that is queued over a store needs nothing of its connection.
         let mut session = Session::new(0, true);
         let (transaction, cluster) = (&self.transaction, &self.cluster);
         transaction.execute(Some(&mut body), &mut session, cluster, answer);
