@@ -1,6 +1,6 @@
 use crate::raw;
 
-/// How many counters are looked at together.
+/// How many counters are read together.
 const ROW: usize = 64;
 
 /// Which branches ran so far, and roughly how often in one input.
@@ -15,7 +15,7 @@ impl Coverage {
         raw::with_counters(|row| row.fill(0));
     }
 
-    /// Whether the input reached what none before it did.
+    /// Returns whether the input reached a branch that none before it reached.
     pub fn is_new(&mut self) -> bool {
         let (mut at, mut is_new) = (0, false);
         raw::with_counters(|row| {
@@ -30,13 +30,13 @@ impl Coverage {
         is_new
     }
 
-    /// How many branches ran.
+    /// Returns how many branches ran.
     pub fn branches(&self) -> usize {
         self.seen.iter().filter(|it| **it != 0).count()
     }
 }
 
-/// Notes these counts, and says whether one is new.
+/// Notes these counts, and returns whether one is new.
 fn is_new_in(row: &[u8], seen: &mut [u8]) -> bool {
     let mut is_new = false;
     for (seen, count) in seen.iter_mut().zip(row) {
@@ -47,7 +47,7 @@ fn is_new_in(row: &[u8], seen: &mut [u8]) -> bool {
     is_new
 }
 
-/// A bit for each of eight ranges of counts.
+/// Returns the bit of a count: there is one for each of eight ranges.
 fn bit_of(count: u8) -> u8 {
     match count {
         0 => 0,

@@ -10,21 +10,21 @@ use std::sync::atomic::{AtomicUsize, Ordering::Relaxed};
 use std::thread;
 use std::time::{Duration, Instant};
 
-/// How many bytes an input may have allocated, beside what was held before it.
+/// How many bytes an input may allocate, beside the bytes that were held before it.
 const MOST_BYTES: isize = 64 << 20;
 /// How many bytes may be held beside the inputs after any number of them.
 const MOST_LEFT: isize = 64 << 20;
-/// How many pages of memory the process may have in all: what the proved library takes too.
+/// How many pages of memory the process may have in all, with those of the proved library.
 const MOST_PAGES: usize = (1 << 30) / 4_096;
-/// How long an input may take, on a machine where others work too.
+/// How long an input may take, on a machine that has other work too.
 const LONGEST: Duration = Duration::from_secs(5);
-/// How many bytes the inputs that are kept have together.
+/// How many bytes the kept inputs have together.
 const KEPT: usize = 32 << 20;
 
-/// How many threads have panicked, which others wait for in vain.
+/// How many threads have panicked. Others wait for them in vain.
 static PANICS: AtomicUsize = AtomicUsize::new(0);
 
-/// Has panics of all threads be counted.
+/// Makes panics of all threads count.
 pub fn count_panics() {
     let told = panic::take_hook();
     panic::set_hook(Box::new(move |info| {
@@ -33,33 +33,33 @@ pub fn count_panics() {
     }));
 }
 
-/// What was found.
+/// The figures of a run.
 #[derive(Debug, Default)]
 pub struct Figures {
     /// How many inputs were tried.
     pub inputs: u64,
-    /// How long the longest took.
+    /// How long the longest input took.
     pub longest: Duration,
-    /// How many bytes one allocated at most.
+    /// The most bytes that one input allocated.
     pub most: isize,
 }
 
-/// Spoils inputs of a target, and keeps those that reach what none before them did.
+/// Spoils inputs of a target, and keeps an input if it reaches a branch that none before it reached.
 pub struct Fuzzer<'a> {
     target: &'a mut dyn Target,
-    /// Where the bytes of the present input lie, for whoever looks where the process is gone.
+    /// The bytes of the present input, for a reader if the process is gone.
     current: File,
     coverage: Coverage,
     chance: Chance,
     population: Vec<Vec<u8>>,
     kept: usize,
     held: isize,
-    /// What was found so far.
+    /// The figures so far.
     pub figures: Figures,
 }
 
 impl<'a> Fuzzer<'a> {
-    /// One that begins with these numbers.
+    /// Returns a fuzzer that begins with these numbers.
     pub fn new(target: &'a mut dyn Target, current: File, seed: u64) -> Fuzzer<'a> {
         Fuzzer {
             target,
@@ -73,7 +73,7 @@ impl<'a> Fuzzer<'a> {
         }
     }
 
-    /// Tries each seed, and then spoilt ones for so long; what is wrong, with the bytes.
+    /// Tries each seed, and then spoilt inputs for this time. Returns the fault, if there is one, with its bytes.
     pub fn run(&mut self, seeds: Vec<Vec<u8>>, time: Duration) -> Result<(), (String, Vec<u8>)> {
         for seed in seeds {
             self.try_one(&seed).map_err(|why| (why, seed.clone()))?;
@@ -102,7 +102,7 @@ impl<'a> Fuzzer<'a> {
         self.population.push(input);
     }
 
-    /// Tries these bytes; what is wrong.
+    /// Tries these bytes. Returns the fault, if there is one.
     pub fn try_one(&mut self, input: &[u8]) -> Result<(), String> {
         self.note(input).map_err(|error| error.to_string())?;
         let (panics, held) = (PANICS.load(Relaxed), raw::held());
@@ -111,7 +111,7 @@ impl<'a> Fuzzer<'a> {
         let (checked, mut took) = self.checked(input);
         let most = raw::most() - held;
         if took > LONGEST {
-            // Where others work too the process may have stood still meanwhile.
+            // If the machine has other work, the process may have stood still meanwhile.
             took = took.min(self.checked(input).1);
         }
         self.figures.inputs += 1;
@@ -129,20 +129,20 @@ impl<'a> Fuzzer<'a> {
         }
     }
 
-    /// What the target says of these bytes, and how long it took.
+    /// Returns the target's verdict on these bytes, and how long it took.
     fn checked(&mut self, input: &[u8]) -> (thread::Result<Result<(), String>>, Duration) {
         let (began, target) = (Instant::now(), &mut self.target);
         let checked = panic::catch_unwind(AssertUnwindSafe(|| target.check(input)));
         (checked, began.elapsed())
     }
 
-    /// Writes down the bytes, behind how many they are.
+    /// Writes the number of bytes, and then the bytes.
     fn note(&self, input: &[u8]) -> std::io::Result<()> {
         let length = (input.len() as u64).to_be_bytes();
         self.current.write_all_at(&[&length, input].concat(), 0)
     }
 
-    /// Whether the process holds no more than it may, which is looked for now and then.
+    /// Checks that the process holds no more than it may; it looks only now and then.
     fn is_small(&self) -> Result<(), String> {
         if self.figures.inputs % 256 != 0 {
             return Ok(());
@@ -157,18 +157,18 @@ impl<'a> Fuzzer<'a> {
         }
     }
 
-    /// How many inputs are kept, and how many branches they reach.
+    /// Returns how many inputs are kept, and how many branches they reach.
     pub fn reached(&self) -> (usize, usize) {
         (self.population.len(), self.coverage.branches())
     }
 
-    /// The inputs that are kept.
+    /// Returns the inputs that are kept.
     pub fn population(&self) -> &[Vec<u8>] {
         &self.population
     }
 }
 
-/// How many pages of memory the process has.
+/// Returns how many pages of memory the process has.
 pub fn pages() -> usize {
     let told = std::fs::read_to_string("/proc/self/statm").unwrap_or_default();
     let pages = told.split(' ').nth(1).and_then(|it| it.parse().ok());

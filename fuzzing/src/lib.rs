@@ -1,9 +1,10 @@
-//! Bytes by chance for each parser that sees the network or the disk, and what has to hold of all of them: it doesn't
-//! panic, takes no more time and memory than a bound, and what it accepts it spells so that it is accepted as the same.
+//! Random bytes for each parser that sees the network or the disk, and the rules that all of them must keep: a parser
+//! must not panic, and must not take more time and memory than a bound; and if it accepts bytes, it must write them
+//! again in a form that it accepts as the same.
 #![deny(unsafe_code)]
 #![warn(missing_docs)]
 
-// What the answers of etcd are read into, for the modules of the store that are read here again.
+// The types of etcd's answers, for the modules of the store that are compiled here again.
 use durkenzo_store::{
     CompactError, KeyChange, LeaseError, LeaseId, Outcome, Pair, ReadError, Reading, Revision,
     Transaction, WriteError,

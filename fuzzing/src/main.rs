@@ -16,19 +16,19 @@ struct Options {
     /// For how long, in seconds
     #[arg(long, default_value_t = 2)]
     seconds: u64,
-    /// Where the numbers of chance begin
+    /// The seed of chance
     #[arg(long, default_value_t = 1)]
     seed: u64,
     /// Files to begin with
     #[arg(long)]
     corpus: Vec<PathBuf>,
-    /// A folder for what it writes, where `current` has the bytes of the present input
+    /// A folder for its files, in which `current` has the bytes of the present input
     #[arg(long)]
     room: PathBuf,
-    /// Tries this file alone
+    /// Tries only this file
     #[arg(long)]
     input: Option<PathBuf>,
-    /// Writes what it kept into this folder
+    /// Writes the inputs that it kept into this folder
     #[arg(long)]
     keep: Option<PathBuf>,
 }

@@ -18,7 +18,7 @@ const NUMBERS: [&[u8]; 10] = [
     b"1e999",
 ];
 
-/// Spoils the input some times, by chance: with these words, and with pieces of another input.
+/// Spoils the input some times, at random: with these words, and with pieces of another input.
 pub fn spoil(input: &mut Vec<u8>, other: &[u8], words: &[&[u8]], chance: &mut Chance) {
     for _ in 0..=chance.below(4) {
         spoil_once(input, other, words, chance);

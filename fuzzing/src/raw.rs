@@ -1,4 +1,4 @@
-//! What of this process is counted, by code that is unsafe: the bytes that are allocated, and which branches ran.
+//! Counts of this process by unsafe code: the bytes that are allocated, and the branches that ran.
 use std::alloc::{GlobalAlloc, Layout, System};
 use std::slice;
 use std::sync::atomic::{AtomicIsize, Ordering::Relaxed};
@@ -7,7 +7,7 @@ use std::sync::Mutex;
 static HELD: AtomicIsize = AtomicIsize::new(0);
 static MOST: AtomicIsize = AtomicIsize::new(0);
 
-/// The system's allocator, which counts what is held.
+/// The system's allocator, which counts the bytes that are held.
 struct Counting;
 
 #[global_allocator]
@@ -18,7 +18,7 @@ fn count(bytes: isize) {
     MOST.fetch_max(held, Relaxed);
 }
 
-// SAFETY: each call is the system's, with what it was given.
+// SAFETY: each call is the system's, with the same arguments.
 unsafe impl GlobalAlloc for Counting {
     unsafe fn alloc(&self, layout: Layout) -> *mut u8 {
         count(layout.size() as isize);
@@ -41,7 +41,7 @@ unsafe impl GlobalAlloc for Counting {
     }
 }
 
-/// How many bytes are held now.
+/// Returns how many bytes are held now.
 pub fn held() -> isize {
     HELD.load(Relaxed)
 }
@@ -51,7 +51,7 @@ pub fn begin() {
     MOST.store(held(), Relaxed);
 }
 
-/// How many bytes were held at most since then.
+/// Returns the most bytes that were held since then.
 pub fn most() -> isize {
     MOST.load(Relaxed)
 }
@@ -67,7 +67,7 @@ unsafe impl Send for Counters {}
 
 static ROWS: Mutex<Vec<Counters>> = Mutex::new(Vec::new());
 
-/// Called before `main` by what rustc instruments.
+/// Is called before `main` by code that rustc instruments.
 #[no_mangle]
 extern "C" fn __sanitizer_cov_8bit_counters_init(start: *mut u8, stop: *mut u8) {
     let length = stop as usize - start as usize;
@@ -77,11 +77,11 @@ extern "C" fn __sanitizer_cov_8bit_counters_init(start: *mut u8, stop: *mut u8) 
     }
 }
 
-/// Called so too; the addresses aren't wanted.
+/// Is called in the same way; the addresses aren't needed.
 #[no_mangle]
 extern "C" fn __sanitizer_cov_pcs_init(_start: *const usize, _stop: *const usize) {}
 
-/// Does something with all counters: none where nothing was instrumented.
+/// Does this work with all counters; there are none if nothing was instrumented.
 pub fn with_counters(mut work: impl FnMut(&mut [u8])) {
     let rows = ROWS.lock().expect("no work here panics");
     for row in rows.iter() {

@@ -1,19 +1,19 @@
-//! What is tried.
+//! The targets, which try parsers.
 use crate::chance::Chance;
 use crate::{mutator, targets};
 use std::path::Path;
 
-/// A parser, and what has to hold of any bytes that it is given.
+/// A parser, and the rules that it must keep for any bytes.
 pub trait Target {
-    /// Gives it the bytes; what is wrong, if something is.
+    /// Gives it the bytes. Returns the fault, if there is one.
     fn check(&mut self, input: &[u8]) -> Result<(), String>;
 
-    /// Words that it knows.
+    /// Returns words that it knows.
     fn words(&self) -> &[&'static [u8]] {
         &[]
     }
 
-    /// Inputs to begin with, beside those of the corpus.
+    /// Returns inputs to begin with, beside those of the corpus.
     fn seeds(&mut self) -> Vec<Vec<u8>> {
         Vec::new()
     }
@@ -43,13 +43,13 @@ pub const TARGETS: [(&str, Make); 12] = [
     ("sqlite", |room| Box::new(targets::SqliteFile::new(room))),
 ];
 
-/// The target of this name.
+/// Returns the target of this name.
 pub fn of(name: &str, room: &Path) -> Option<Box<dyn Target>> {
     let found = TARGETS.iter().find(|it| it.0 == name)?;
     Some(found.1(room))
 }
 
-/// What is wrong, where something doesn't hold.
+/// Returns the fault if this doesn't hold.
 pub fn holds(is_so: bool, what: impl FnOnce() -> String) -> Result<(), String> {
     match is_so {
         true => Ok(()),

@@ -4,37 +4,40 @@ use crate::machine_clock::MachineClock;
 use crate::mail::Sender;
 use crate::process::LEASE;
 use crate::simulated_store::SharedStore;
-use durkenzo_driver::{Addresses, Clock, JoinFault, JoinStep, Joining, Member};
+use durkenzo_driver::{Addresses, Clock, JoinFault, JoinStep, JoiningMember, Member};
 use std::sync::Arc;
 
-/// A process that has begun, and whose server isn't there yet.
+/// A process that has begun, but whose server hasn't joined yet.
 pub struct Beginning {
     pub sender: Sender,
-    joining: Joining,
+    joining: JoiningMember,
     pub shape: Option<LinkShape>,
 }
 
-/// What comes of a turn of a process that has begun.
+/// The result of a turn of a `Beginning`.
 pub enum BeginningStep {
-    /// Its server is there.
+    /// The server has joined.
     Joined(Arc<Member>, Option<LinkShape>),
     Waits(Box<Beginning>),
-    /// It ends.
+    /// The process ends.
     Failed(JoinFault),
 }
 
 impl Beginning {
-    /// Has a process begin whose server this is to be.
+    /// Begins a process for this server.
     pub fn new(
         (shared, clock): (&SharedStore, &MachineClock),
         sender: Sender,
         server: u16,
-        shape: Option<LinkShape>,
+        (shape, address): (Option<LinkShape>, Option<String>),
     ) -> Result<Beginning, JoinFault> {
         let (leases, own) = (clock.clone(), clock.clone());
         let mut addresses = Addresses::default();
         if shape.is_some() {
             addresses.servers = sender.place.to_string();
+        }
+        if let Some(address) = address {
+            addresses.servers = address;
         }
         let joining = Member::join_without_thread(
             Arc::new(Line::of(shared, sender.place)),
@@ -51,7 +54,7 @@ impl Beginning {
         })
     }
 
-    /// Does what is due.
+    /// Does the work that is due.
     pub fn turn(self) -> BeginningStep {
         match self.joining.turn() {
             JoinStep::Joined(member) => BeginningStep::Joined(Arc::new(member), self.shape),

@@ -1,6 +1,6 @@
-//! Numbers of chance, the same for the same seed.
+//! Random numbers. The same seed gives the same numbers.
 
-/// A generator of numbers (SplitMix64).
+/// A generator of random numbers (SplitMix64).
 pub struct Chance {
     state: u64,
 }
@@ -18,12 +18,12 @@ impl Chance {
         mixed ^ (mixed >> 31)
     }
 
-    /// A number below `count`, which isn't 0.
+    /// Returns a number below `count`, which must not be 0.
     pub fn below(&mut self, count: u64) -> u64 {
         self.drawn() % count
     }
 
-    /// Whether it comes true, which it does `times` times in `of`.
+    /// Draws an event that happens `times` times in `of`. Returns whether it happens.
     pub fn is_true(&mut self, times: u64, of: u64) -> bool {
         self.below(of) < times
     }

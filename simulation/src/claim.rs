@@ -1,63 +1,64 @@
-//! What was told to clients.
+//! The claims: everything that clients were told.
 use crate::reading::Replied;
 
-/// What was asked of a shard's map, all of one moment.
+/// A question about a shard's map. It is answered for one moment.
 #[derive(Clone, Debug)]
 pub enum MapQuery {
-    /// What these keys hold.
+    /// Asks for the values of these keys.
     Keys(Vec<Vec<u8>>),
-    /// The first keys that are no lower than the first and lower than the second, so many at most; and whether what
-    /// they hold is told too.
+    /// Asks for the first keys that are at least `low` and below `high`, up to `most` of them. If `is_of_pairs` holds,
+    /// their values are told too.
     Range {
         low: Vec<u8>,
         high: Option<Vec<u8>>,
         most: usize,
         is_of_pairs: bool,
     },
-    /// How many keys hold something.
+    /// Asks how many keys have a value.
     Count,
 }
 
-/// What was replied of a map: each key with what it holds, as far as that was asked for.
+/// The reply from a map: each key, with its value if the question asked for values.
 pub type Listed = Vec<(Vec<u8>, Option<Replied>)>;
 
 #[derive(Clone, Debug)]
 pub enum Said {
-    /// The requests of these bytes are made, with these replies; and before them keys held this, by which it was
-    /// decided to make them.
+    /// The requests with these bytes are made, and these are their replies. If the client decided on the requests by
+    /// the values of keys, the keys held these values before.
     Made {
         bodies: Vec<Vec<u8>>,
         replies: Vec<(u8, u64)>,
         held: Listed,
     },
-    /// A later request of the client is made, so this one won't be.
+    /// A later request of the client is made, so this one never will be.
     Passed,
-    /// This was read, of the map as it was at the revision `since` or later.
+    /// The client read this in the map as it was at revision `since` or later.
     Read {
         asked: MapQuery,
         listed: Listed,
         since: u64,
     },
-    /// The requests aren't made, and won't be.
+    /// The requests aren't made, and never will be.
     NotMade { bodies: Vec<Vec<u8>> },
-    /// The requests are made, or aren't: all of them or none.
+    /// Either all of the requests are made, or none of them. The client doesn't know which.
     Unknown { bodies: Vec<Vec<u8>> },
-    /// What lies in the store is wrong.
+    /// The values in the store are damaged.
     Damaged(String),
 }
 
 #[derive(Clone, Debug)]
 pub struct Claim {
-    /// The store's revision when it was told.
+    /// The store's revision when the client was told.
     pub at: u64,
     pub shard: u16,
-    /// The client and its number for this, if it numbers what it asks.
+    /// The client and its number for this request, if the client numbers its requests.
     pub numbered: Option<(u64, u64)>,
     pub said: Said,
 }
 
 impl Claim {
-    /// Whether it says all that is known: what a client numbered may be made as it was asked elsewhere too.
+    /// Returns whether the claim settles the requests. If a numbered request wasn't made here, the claim doesn't,
+    /// because the client may have sent it to another process too.
     pub fn is_final(&self) -> bool {
         self.numbered.is_none() || !matches!(self.said, Said::NotMade { .. })
     }

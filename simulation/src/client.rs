@@ -1,4 +1,4 @@
-//! What clients ask of shards, and what they are told.
+//! The requests of clients to shards, and their answers.
 use crate::claim::{Claim, Listed, MapQuery, Said};
 use crate::links::{Parcel, Parcels, SpelledStep};
 use crate::reading::Replied;
@@ -9,21 +9,21 @@ use durkenzo_driver::{
 use std::sync::atomic::{AtomicBool, Ordering};
 use std::sync::{Arc, Mutex};
 
-/// All that was told to clients.
+/// Everything that clients were told.
 pub type Claims = Arc<Mutex<Vec<Claim>>>;
 
-/// Work of a client, which notes what it is told.
+/// Work of a client, which notes its answers.
 pub struct Asking {
     pub shared: SharedStore,
     pub told: Claims,
     pub shard: u16,
     pub begin: Begin,
-    /// The number that makes the texts of what it decides its own.
+    /// A number that makes the texts of this work unique.
     pub text: u32,
-    /// What its keys held when it decided last, and what it decided each time.
+    /// The values of the keys at the last decision, and the requests of each decision.
     pub held: Vec<MapReply>,
     pub decided: Vec<Vec<MapRequest>>,
-    /// The revision from which on what it reads may be.
+    /// The earliest revision that the work's reads may show.
     pub since: u64,
     pub is_wanted: Arc<AtomicBool>,
     pub parcels: Parcels,
@@ -76,7 +76,7 @@ impl Work for Asking {
             said,
         };
         told.extend(said.map(claim));
-        // What it decided before it decided anew isn't made.
+        // If the work decided again, the requests of its earlier decisions aren't made.
         for requests in &self.decided {
             let bodies = bodies(requests);
             told.push(claim(Said::NotMade { bodies }));
@@ -131,8 +131,8 @@ impl Asking {
     }
 }
 
-/// Returns what work that begins so decides to write, by what its keys hold. It has decided so often before, and this
-/// number makes its texts its own.
+/// Returns the requests that work with this beginning decides on, if its keys hold these values. The work has decided
+/// `time` times before. `number` makes its texts unique.
 pub fn decided(begin: &Begin, number: u32, time: u32, held: &[MapReply]) -> Vec<MapRequest> {
     let Begin::Change(keys) = begin else {
         return Vec::new();
@@ -140,7 +140,7 @@ pub fn decided(begin: &Begin, number: u32, time: u32, held: &[MapReply]) -> Vec<
     let holds_nothing = held.iter().all(|it| *it == MapReply::Nothing);
     let text = [number.to_be_bytes(), time.to_be_bytes()].concat();
     match keys.first() {
-        // It writes nothing, by what it read.
+        // The work decides to write nothing.
         Some(_) if number % 8 == 0 || holds_nothing && number % 2 == 0 => Vec::new(),
         Some(key) => vec![MapRequest::Put(key.clone(), text)],
         None => Vec::new(),
@@ -171,7 +171,7 @@ fn listed(reply: &MapReply) -> (Vec<u8>, Option<Replied>) {
     }
 }
 
-/// The reply to a request that writes.
+/// Returns the kind and the number of the reply to a request that writes.
 fn bare(reply: &MapReply) -> (u8, u64) {
     let (kind, value, _) = replied(reply);
     (kind, value)
@@ -190,7 +190,7 @@ fn replied(reply: &MapReply) -> Replied {
     }
 }
 
-/// The bytes of requests, as the documents spell them.
+/// Returns the bytes of the requests, as the documents define them.
 fn bodies(requests: &[MapRequest]) -> Vec<Vec<u8>> {
     let spelled = |it: &MapRequest| {
         let (kind, rest) = match it {
@@ -205,11 +205,11 @@ fn bodies(requests: &[MapRequest]) -> Vec<Vec<u8>> {
     requests.iter().map(spelled).collect()
 }
 
-/// A client that numbers what it asks, one after the other.
+/// A client that numbers its requests, and makes one after the other.
 pub struct Client {
     pub name: u64,
     pub number: u64,
-    /// What it asks under this number, of which shard.
+    /// The requests under this number, and their shard.
     pub current: Option<(u16, Vec<MapRequest>)>,
 }
 
@@ -223,7 +223,7 @@ impl Client {
         }
     }
 
-    /// Returns how what it asks now begins.
+    /// Returns the shard and the beginning of the current work, if there is any.
     pub fn begin(&self) -> Option<(u16, Begin)> {
         let (shard, requests) = self.current.clone()?;
         let numbered = Numbered {

@@ -1,4 +1,4 @@
-//! What controls of processes send to one another: commands, and what became of them there.
+//! The mail between the controls of processes: commands, and their outcomes.
 use crate::mail::{Mails, Sender};
 use crate::operator_reply::text;
 use durkenzo_control::control::{Again, Asked, ControlAnswer, Refusal, ReplyTo};
@@ -8,12 +8,12 @@ use std::fmt;
 /// A command that went to the control of another process.
 pub struct PassedCommand {
     pub asked: Asked,
-    /// Where it waits again if nothing is done of it.
+    /// The queue in which the command waits again if nothing was done for it.
     pub again: Option<Again>,
 }
 
 impl PassedCommand {
-    /// Has the command, of which nothing was done, wait again if it may. Otherwise refuses it.
+    /// Takes the command back, because nothing was done for it. It waits again if it may. Otherwise it is refused.
     pub fn give_back(self, why: &str) {
         let held = match self.again {
             Some(again) => again.hold(self.asked),
@@ -24,13 +24,13 @@ impl PassedCommand {
         }
     }
 
-    /// Tells that the command may have been done, or not.
+    /// Answers that the command may have been done or not.
     pub fn lose(self) {
         let told = "UNKNOWN the connection broke: look before you try again";
         self.asked.reply_to.pass_on(told.as_bytes().to_vec());
     }
 
-    /// Tells what became of it.
+    /// Answers with the command's outcome, or takes the command back.
     pub fn end(self, became: CommandBecame) {
         match became {
             CommandBecame::Answered(answer) => self.asked.reply_to.pass_on(answer),
@@ -63,32 +63,33 @@ impl ForwardedCommand for PassedCommand {
     }
 }
 
-/// A command on its way to the control of this process, if the sender knows one of the server.
+/// A command on its way to the control of another process. If the sender knew no process of the server, `process` is
+/// `None`.
 pub struct CommandMessage {
     pub sender: Sender,
     pub process: Option<u64>,
     pub command: PassedCommand,
 }
 
-/// What became of a command at another process.
+/// The outcome of a command at another process.
 pub enum CommandBecame {
     Answered(Vec<u8>),
     GivenBack,
     Lost,
 }
 
-/// What became of a command, on its way back.
+/// The outcome of a command, on its way back.
 pub struct CommandAnswer {
     pub sender: Sender,
     pub command: PassedCommand,
     pub became: CommandBecame,
 }
 
-/// Where the answer goes to a command that came from another process. If this one crashes, that one hears that its
-/// connection broke.
+/// The destination of the answer to a command from another process. If this process crashes, the other one hears that
+/// its connection broke.
 pub struct VisitorReply {
     pub mails: Mails,
-    /// The command, unless that process doesn't hear of it any more.
+    /// The command, and the process that sent it. It is `None` if that process doesn't hear of the command any more.
     pub visits: Option<(Sender, PassedCommand)>,
 }
 

@@ -3,10 +3,10 @@ use crate::chance::Chance;
 use crate::command::settings;
 use std::time::Duration;
 
-/// How the controls of a schedule are.
+/// The controls of a schedule.
 pub struct ControlShape {
     pub settings: String,
-    /// How long a step of a migration takes at least.
+    /// The shortest time that a step of a migration takes.
     pub pace: Duration,
     pub bug: Option<Bug>,
     /// Whether each server has room for all shards.
@@ -14,9 +14,9 @@ pub struct ControlShape {
 }
 
 impl ControlShape {
-    /// Returns one by chance, of so many shards on three servers.
+    /// Draws the controls of a schedule with three servers. `shards` is the number of shards.
     pub fn new(chance: &mut Chance, shards: u16, bug: Option<Bug>) -> ControlShape {
-        // Two servers have room for all shards, at least.
+        // Any two servers together must have room for all shards.
         let room = [shards.div_ceil(2), shards, 9][chance.below(3) as usize];
         ControlShape {
             settings: settings(shards, room),

@@ -1,75 +1,87 @@
 use std::fmt;
 
-/// Something that goes wrong by chance.
+/// A random fault.
 #[derive(Clone, Copy, Debug, PartialEq, Eq, PartialOrd, Ord)]
 pub enum Fault {
-    /// A member of the store takes calls and answers none.
+    /// A member of the store takes calls, but doesn't answer them.
     MemberHangs,
     /// A member of the store can't be reached.
     MemberGone,
-    /// A member of the store learns late of what is made.
+    /// A member of the store learns late of changes.
     MemberLags,
     /// Another member leads.
     LeaderChange,
-    /// The quota of the store is reached: it takes no puts and grants no leases.
+    /// The store has reached its quota. It takes no puts and grants no leases.
     StoreFull,
-    /// The store lets go its history, or most of it.
+    /// The store drops its history, or most of it.
     Compaction,
-    /// A watch breaks, and is asked for again at another member.
+    /// A watch breaks, and continues at another member.
     WatchBreaks,
-    /// A sender doesn't wait for its transaction, which may be made later or never.
+    /// A sender stops waiting for its transaction, which may be made later or never.
     SentInVain,
-    /// A transaction comes twice.
+    /// A transaction arrives twice.
     SentTwice,
-    /// What became of a transaction is told late.
+    /// The sender learns the outcome of a transaction late.
     AnswerLate,
-    /// What became of a transaction isn't told.
+    /// The sender doesn't learn the outcome of a transaction.
     AnswerLost,
     /// The store refuses a transaction for now.
     WriteRefused,
     /// The store has no room for a transaction.
     WriteFull,
-    /// A transaction is larger than the store takes.
+    /// A transaction is larger than the store accepts.
     WriteTooLarge,
-    /// A transaction that is waited for isn't answered.
+    /// A transaction isn't answered although its sender waits for it.
     CallLost,
-    /// A reading isn't answered.
+    /// A read isn't answered.
     ReadLost,
-    /// A call for a lease isn't answered.
+    /// A call about a lease isn't answered.
     LeaseCallLost,
-    /// The store says that there is little room.
+    /// The store reports that there is little room left.
     RoomScarce,
-    /// A process learns late of what it has read.
+    /// A process learns late of the values that it has read.
     ReadLate,
-    /// A process stops, and forgets all.
+    /// A process stops and forgets everything.
     Crash,
     /// A process does nothing for a while.
     Pause,
-    /// A process is asked to stop, or ends its stop.
+    /// A process is asked to stop, or finishes its stop.
     Stop,
-    /// Steps or their answers between processes are lost.
+    /// Steps between processes, or their answers, are lost.
     StepsLost,
     /// A command between processes, or its answer, is lost.
     CommandLost,
-    /// A process isn't reached by another one.
+    /// A process can't reach another one.
     DialFails,
-    /// A place doesn't reach another one for a while.
+    /// A place can't reach another one for a while.
     PlaceBlocked,
-    /// One or both directions of a connection carry nothing, for a while or for good.
+    /// One or both directions of a connection carry nothing, for a while or forever.
     ConnectionCut,
     /// A connection breaks.
     ConnectionBreaks,
-    /// With a process its machine is gone, so that nobody is told.
+    /// The machine is gone together with the process, so nobody is told that the process ended.
     MachineGone,
-    /// An answer of a member is cut.
+    /// The answer of a member is cut off.
     AnswerCut,
-    /// The store says that it had no room for what it made.
+    /// The store says that it had no room for a transaction, although it made the transaction.
     FullThoughMade,
+    /// A disk writes nothing, or only a part.
+    DiskWriteFails,
+    /// A disk doesn't keep data that it was told to keep.
+    DiskSyncFails,
+    /// A disk fails to read.
+    DiskReadFails,
+    /// A disk refuses another call.
+    DiskCallFails,
+    /// Other programs use nearly all of the disk's room.
+    DiskFull,
+    /// A machine loses power, so its disk loses the data that it wasn't told to keep.
+    PowerLost,
 }
 
 impl Fault {
-    /// All of them, in their order.
-    pub const ALL: [Fault; 31] = [
+    /// All kinds, in their order.
+    pub const ALL: [Fault; 37] = [
         Fault::MemberHangs,
         Fault::MemberGone,
         Fault::MemberLags,
@@ -101,9 +113,15 @@ impl Fault {
         Fault::MachineGone,
         Fault::AnswerCut,
         Fault::FullThoughMade,
+        Fault::DiskWriteFails,
+        Fault::DiskSyncFails,
+        Fault::DiskReadFails,
+        Fault::DiskCallFails,
+        Fault::DiskFull,
+        Fault::PowerLost,
     ];
 
-    /// Returns its name, as timelines and counts have it.
+    /// Returns the fault's name in timelines and counts.
     pub fn name(self) -> &'static str {
         match self {
             Fault::MemberHangs => "member-hangs",
@@ -137,11 +155,17 @@ impl Fault {
             Fault::MachineGone => "machine-gone",
             Fault::AnswerCut => "answer-cut",
             Fault::FullThoughMade => "full-though-made",
+            Fault::DiskWriteFails => "disk-write-fails",
+            Fault::DiskSyncFails => "disk-sync-fails",
+            Fault::DiskReadFails => "disk-read-fails",
+            Fault::DiskCallFails => "disk-call-fails",
+            Fault::DiskFull => "disk-full",
+            Fault::PowerLost => "power-lost",
         }
     }
 }
 
-/// A fault as it is numbered: the first of its kind in a schedule is 1.
+/// A fault with its number. The first fault of its kind in a schedule has number 1.
 #[derive(Clone, Copy, Debug, PartialEq, Eq, PartialOrd, Ord)]
 pub struct NumberedFault {
     pub fault: Fault,

@@ -1,12 +1,12 @@
-//! The faults of a schedule: drawn by chance, each kind from a stream of its own, and numbered as they are drawn. So a
-//! run that leaves some out draws those of other kinds as before.
+//! The faults of a schedule. Each kind has its own stream of random numbers, and its faults are numbered in the order
+//! in which they are drawn. So if a run leaves some faults out, it still draws the same faults of the other kinds.
 use crate::chance::Chance;
 use crate::fault::{Fault, NumberedFault};
 use crate::timeline::{Column, Timeline};
 use std::collections::BTreeSet;
 use std::sync::{Arc, Mutex};
 
-/// Which of the faults that are drawn strike.
+/// Says which of the drawn faults strike.
 #[derive(Clone, Debug, Default)]
 pub enum Kept {
     #[default]
@@ -23,19 +23,16 @@ impl Kept {
     }
 }
 
-/// How many faults of each kind there were.
-pub type FaultCounts = [u64; Fault::ALL.len()];
-
 struct Drawn {
     seed: u64,
     chances: Vec<Chance>,
-    /// How many of each kind were drawn, with those that were left out.
+    /// How many faults of each kind were drawn, including those that were left out.
     counts: [u32; Fault::ALL.len()],
     struck: Vec<NumberedFault>,
     kept: Kept,
 }
 
-/// The faults of one schedule, for all who draw them.
+/// The faults of one schedule, shared by all that draw them.
 #[derive(Clone)]
 pub struct Faults {
     drawn: Arc<Mutex<Drawn>>,
@@ -43,7 +40,7 @@ pub struct Faults {
 }
 
 impl Faults {
-    /// Returns the faults of this seed, of which only these strike.
+    /// Returns the faults of this seed. Only the kept ones strike.
     pub fn new(seed: u64, kept: Kept, timeline: Timeline) -> Faults {
         let chances = (0..Fault::ALL.len() as u64).map(|it| Chance::new(mixed(seed, it)));
         let drawn = Drawn {
@@ -59,8 +56,8 @@ impl Faults {
         }
     }
 
-    /// Draws whether this fault strikes, which it does `times` times in `of`. Returns the chance by which it does, if
-    /// it strikes.
+    /// Draws whether this fault strikes, with a probability of `times` in `of`. If it strikes, returns the random
+    /// numbers for its details.
     pub fn strike(&self, fault: Fault, times: u64, of: u64, column: Column) -> Option<Chance> {
         let mut drawn = self
             .drawn
@@ -84,12 +81,12 @@ impl Faults {
         Some(Chance::new(seed))
     }
 
-    /// Draws whether this fault strikes.
+    /// Draws whether this fault strikes, with a probability of `times` in `of`.
     pub fn strikes(&self, fault: Fault, times: u64, of: u64, column: Column) -> bool {
         self.strike(fault, times, of, column).is_some()
     }
 
-    /// Returns all that struck, in their order.
+    /// Returns all faults that struck, in their order.
     pub fn struck(&self) -> Vec<NumberedFault> {
         let drawn = self
             .drawn
@@ -99,14 +96,7 @@ impl Faults {
     }
 }
 
-/// Returns how many of each kind these are.
-pub fn counts_of(struck: &[NumberedFault]) -> FaultCounts {
-    let mut counts = [0; Fault::ALL.len()];
-    struck.iter().for_each(|it| counts[it.fault as usize] += 1);
-    counts
-}
-
-/// A seed of its own for each number.
+/// Returns another seed for each number.
 fn mixed(seed: u64, number: u64) -> u64 {
     Chance::new(seed ^ Chance::new(number).drawn()).drawn()
 }

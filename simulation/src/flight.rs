@@ -1,17 +1,18 @@
 use durkenzo_store::{Done, Outcome, Transaction, WriteError};
 
-/// What became of a transaction.
+/// The outcome of a transaction.
 pub type Became = Result<Outcome, WriteError>;
 
-/// A transaction on its way, or what became of it on its way back.
+/// A transaction on its way to the store, or its outcome on the way back.
 pub struct Flight {
-    /// How many were sent before, and with it.
+    /// How many transactions had been sent when this flight began, including its own.
     pub number: u64,
     pub transaction: Transaction,
-    /// The way by which it was sent, by its number.
+    /// The number of the route on which it was sent.
     pub route: usize,
-    /// Who is told; nobody of a copy, and nobody who was told that it isn't known what became of it.
+    /// Tells the sender the outcome. It is `None` if nobody waits for that: for a copy, or once the sender was told
+    /// that the outcome is unknown.
     pub done: Option<Done>,
-    /// What became of it, once the store has made it.
+    /// The outcome, once the store has made the transaction.
     pub became: Option<Became>,
 }

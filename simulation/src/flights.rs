@@ -1,4 +1,4 @@
-//! What is on its way to the store, and what became of it on its way back.
+//! The transactions on their way to the store, and their outcomes on the way back.
 use crate::etcd::Reached;
 use crate::fault::Fault;
 use crate::flight::{Became, Flight};
@@ -7,18 +7,18 @@ use crate::timeline::Column;
 use crate::told;
 use durkenzo_store::{Done, Outcome, Room, Transaction, WriteError};
 
-/// An outcome that isn't known.
+/// Returns the outcome that says that the outcome isn't known.
 fn unknown() -> Became {
     Err(WriteError::Unknown("by chance".to_owned()))
 }
 
 impl SimulatedStore {
-    /// Sends a transaction that nobody waits for.
+    /// Sends a transaction. Nobody waits for its outcome.
     pub fn send_for_nobody(&mut self, transaction: Transaction, route: usize) {
         self.send(transaction, route, None);
     }
 
-    /// Sends a transaction. Whoever waits for it is told what became of it.
+    /// Sends a transaction. If `done` is given, it will be told the outcome.
     pub fn send(&mut self, transaction: Transaction, route: usize, done: Option<Done>) {
         self.sent += 1;
         self.flights.push(Flight {
@@ -30,12 +30,13 @@ impl SimulatedStore {
         });
     }
 
-    /// The control of this column goes on: no command may be made from now on that it has sent so far.
+    /// Notes that the control of this column goes on. From now on the store must not make any command that this control
+    /// has sent so far.
     pub fn give_up_commands(&mut self, column: Column) {
         self.given_up.insert(column.number(), self.sent);
     }
 
-    /// Makes what was sent, and notes if it is a command that its control has given up.
+    /// Makes the sent transaction. If it is a command that its control has given up, notes that.
     fn make_sent(&mut self, at: usize) -> Became {
         let (number, route) = (self.flights[at].number, self.flights[at].route);
         let transaction = self.flights[at].transaction.clone();
@@ -50,7 +51,7 @@ impl SimulatedStore {
         became
     }
 
-    /// Makes a transaction whose sender waits for it, or loses it.
+    /// Makes a transaction while its sender waits, or loses it.
     pub fn called(&mut self, transaction: Transaction, route: usize) -> Became {
         let column = self.column_of(route);
         self.let_others_write();
@@ -77,7 +78,7 @@ impl SimulatedStore {
         }
     }
 
-    /// Makes some of what is on its way, as while somebody waits for the store.
+    /// Makes one of the transactions on their way, by chance, because somebody waits for the store.
     pub fn let_others_write(&mut self) {
         if self.is_calm || self.flights.is_empty() || !self.chance.is_true(1, 4) {
             return;
@@ -89,7 +90,8 @@ impl SimulatedStore {
         }
     }
 
-    /// Takes one step with something that is on its way. Returns whom to tell what.
+    /// Moves one random transaction or outcome a step further. If its sender learns an outcome by that, returns the
+    /// sender's callback and the outcome.
     pub fn fly(&mut self) -> Option<(Done, Became)> {
         let count = self.flights.len() as u64;
         let at = self.chance.below(count.max(1)) as usize;
@@ -114,7 +116,7 @@ impl SimulatedStore {
         }
     }
 
-    /// What became of a transaction comes back, or is lost.
+    /// Brings the outcome of a transaction back to its sender, or loses it.
     fn come_back(&mut self, at: usize, became: Became) -> Option<(Done, Became)> {
         let column = self.column_of(self.flights[at].route);
         let became = match self.fails(Fault::AnswerLost, 12, column) {
@@ -126,7 +128,7 @@ impl SimulatedStore {
         self.tell(flight.done, flight.route, became)
     }
 
-    /// Something arrives at a member that answers, unless a fault strikes.
+    /// Delivers a transaction to a member that answers, unless a fault strikes.
     fn arrive(&mut self, at: usize, transaction: &Transaction) -> Option<(Done, Became)> {
         let (why, column) = (
             || "by chance".to_owned(),
@@ -148,7 +150,7 @@ impl SimulatedStore {
         self.land(at, transaction)
     }
 
-    /// Nobody waits so long for what is on its way. It comes later or never.
+    /// Stops waiting for a transaction on its way. The transaction arrives later or never.
     fn give_up_on(&mut self, at: usize) -> Option<(Done, Became)> {
         let became = self.told(&self.flights[at].transaction, unknown());
         let (done, route) = (self.flights[at].done.take(), self.flights[at].route);
@@ -158,20 +160,20 @@ impl SimulatedStore {
         self.tell(done, route, became)
     }
 
-    /// The store doesn't make what is on its way, and never will.
+    /// Refuses the transaction on its way. The store doesn't make it, and never will.
     fn refuse(&mut self, at: usize, error: WriteError) -> Option<(Done, Became)> {
         let flight = self.flights.swap_remove(at);
         self.tell(flight.done, flight.route, Err(error))
     }
 
-    /// The store makes what is on its way. A copy may come later.
+    /// Lets the store make the transaction. A copy of it may arrive later.
     fn land(&mut self, at: usize, transaction: &Transaction) -> Option<(Done, Became)> {
         let became = self.make_sent(at);
         let flight = &mut self.flights[at];
         let (done, route) = (flight.done.take(), flight.route);
         let column = self.column_of(route);
         let is_late = self.fails(Fault::AnswerLate, 6, column);
-        // What the store refused for now isn't made by a copy either.
+        // If the store refused the transaction for now, it doesn't make a copy of it either.
         let is_copied = became.is_ok() && self.fails(Fault::SentTwice, 12, column);
         if done.is_none() || !is_copied {
             self.flights.swap_remove(at);
@@ -191,7 +193,7 @@ impl SimulatedStore {
         self.tell(Some(done), route, became)
     }
 
-    /// Returns whom to tell what, if anybody waits for it.
+    /// Returns the sender's callback and the outcome, if a sender waits for it.
     fn tell(&mut self, done: Option<Done>, route: usize, became: Became) -> Option<(Done, Became)> {
         let (done, told) = (done?, || format!("is told {}", told::became(&became)));
         self.timeline.note(self.column_of(route), told);

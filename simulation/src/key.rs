@@ -1,4 +1,4 @@
-//! The keys of the store, read here anew.
+//! The keys of the store. The simulator reads them by itself, without the driver's code.
 use durkenzo_store::Transaction;
 
 #[derive(Clone, Copy, Debug, PartialEq, Eq, PartialOrd, Ord, Hash)]
@@ -8,26 +8,29 @@ pub enum DecodedKey {
     Leader,
     /// The process that sent the latest command.
     Commands,
+    Settings,
     Record(u16),
-    /// How far the restart of a server has come.
+    /// The progress of a server's restart.
     State(u16),
-    /// A process that runs this server, and up to which revision it has read.
+    /// The process that runs this server, and the revision up to which it has read.
     Server(u16),
-    /// What a server acks of a shard.
+    /// The process that last executed by permits as this server.
+    Ran(u16),
+    /// A server's ack for a shard.
     Ack(u16, u16),
-    /// That a server is drained, and where a shard comes home.
+    /// The drain of a server, and the home of a shard.
     Drain(u16),
     Home(u16),
-    /// The first number by which a server's process still has requests.
+    /// The lowest number under which a server's process still has requests.
     Lowest(u16),
     Head(u16),
     Batch(u16, u64),
-    /// A part of the base of so many batches, by its place.
+    /// A part of a shard's base: how many batches the base stands for, and the part's place.
     Part(u16, u64, u64),
 }
 
 impl DecodedKey {
-    /// Returns the key that these bytes spell, if they spell one.
+    /// Reads a key from these bytes. Returns `None` if the bytes aren't a key.
     pub fn of(bytes: &[u8]) -> Option<DecodedKey> {
         let mut words = std::str::from_utf8(bytes).ok()?.split('/');
         let name = words.next()?;
@@ -37,9 +40,11 @@ impl DecodedKey {
             ("process", 0) => DecodedKey::Process,
             ("leader", 0) => DecodedKey::Leader,
             ("commands", 0) => DecodedKey::Commands,
+            ("settings", 0) => DecodedKey::Settings,
             ("record", 1) => DecodedKey::Record(place(0)?),
             ("state", 1) => DecodedKey::State(place(0)?),
             ("server", 1) => DecodedKey::Server(place(0)?),
+            ("ran", 1) => DecodedKey::Ran(place(0)?),
             ("ack", 2) => DecodedKey::Ack(place(0)?, place(1)?),
             ("drain", 1) => DecodedKey::Drain(place(0)?),
             ("home", 1) => DecodedKey::Home(place(0)?),
@@ -51,13 +56,13 @@ impl DecodedKey {
         })
     }
 
-    /// Returns whether it is of work that whoever leads goes on with.
+    /// Returns whether the key holds an intent: work that the leader goes on with, whichever process leads.
     pub fn is_intent(self) -> bool {
         matches!(self, DecodedKey::Drain(_) | DecodedKey::Home(_))
     }
 }
 
-/// What a transaction compared, wrote and deleted.
+/// The compares, the writes and the deletions of a transaction.
 #[derive(Clone, Debug)]
 pub struct Written {
     pub compares: Vec<(DecodedKey, u64)>,
@@ -66,7 +71,7 @@ pub struct Written {
 }
 
 impl Written {
-    /// Returns what the transaction writes, if its keys can be read.
+    /// Reads the transaction. Returns `None` if it writes or deletes a key that can't be read.
     pub fn of(transaction: &Transaction) -> Option<Written> {
         let puts = transaction.puts.iter();
         let deletes = transaction.deletes.iter();
@@ -84,7 +89,7 @@ impl Written {
         })
     }
 
-    /// Returns whether by this a head comes to name a base.
+    /// Returns whether this transaction makes a head name another base.
     pub fn names_base(&self) -> bool {
         matches!(self.puts[..], [(DecodedKey::Head(_), _)])
     }

@@ -1,18 +1,21 @@
-//! The law, checked of what a store made and what was told: by the documents alone, with nothing of the proved library.
+//! The law. It judges the transactions that a store made, and the claims that clients were told. It is written from the
+//! documents only, and uses no code of the proved library.
 use crate::claim::{Claim, Listed, Said};
+use crate::decoded_settings::DecodedSettings;
 use crate::key::{DecodedKey, Written};
 use crate::reading::{self, DecodedRecord, Item, Made, MapModel, Replied};
 use durkenzo_store::Transaction;
 use std::collections::{HashMap, HashSet};
 
-/// The numbers of servers' states.
+/// The numbers of the servers' states.
 const UP: u64 = 0;
+const APPROVED: u64 = 2;
 const STOPPED: u64 = 3;
 const FAILED: u64 = 4;
-/// How often a request is forwarded at most.
+/// How often a request may be forwarded.
 const MOST_HOPS: u64 = 4;
 
-/// What was broken, and by what.
+/// A law that was broken, and how.
 #[derive(Debug)]
 pub struct Broken {
     pub law: &'static str,
@@ -35,19 +38,19 @@ struct One {
     reply: Replied,
     /// The revision of its batch.
     since: u64,
-    /// The map before it.
+    /// The map before the request.
     before: MapModel,
 }
 
 impl One {
-    /// Whether keys held this before it.
+    /// Returns whether the keys had these values before the request.
     fn is_after(&self, held: &Listed) -> bool {
         let mut held = held.iter();
         held.all(|(key, told)| *told == Some(self.before.get(key)))
     }
 }
 
-/// Whether these are the replies to what was made, of so many requests.
+/// Returns whether these are the replies to the requests that were made. There must be `count` of them.
 fn is_told(made: &[One], replies: &[(u8, u64)], count: usize) -> bool {
     let replied = made.iter().map(|it| (it.reply.0, it.reply.1));
     replied.eq(replies.iter().copied()) && made.len() == count
@@ -56,26 +59,27 @@ fn is_told(made: &[One], replies: &[(u8, u64)], count: usize) -> bool {
 #[derive(Default)]
 struct ShardModel {
     record: DecodedRecord,
-    /// The revision at which that was written.
+    /// The revision that wrote the record.
     stood: u64,
     batches: u64,
-    /// How many of them the base stands for that the head names.
+    /// How many batches the base stands for that the head names.
     base: u64,
     now: Made,
-    /// What the first batches have made, by how many they are, less one.
+    /// The state after each batch. The first one is the state after one batch.
     after: Vec<Made>,
-    /// The numbers of the bases that lie there.
+    /// The numbers of the bases in the store.
     bases: HashSet<u64>,
-    /// What each client asked last.
+    /// The number of each client's last request.
     lasts: HashMap<u64, u64>,
-    /// The number below which clients are forgotten, since each revision that changed it.
+    /// The numbers below which clients are forgotten, each with the revision that set it.
     floors: Vec<(u64, u64)>,
     /// All requests, in the order in which they were made.
     made: Vec<One>,
-    /// The places of those that are like no other by their bytes, and of all by their clients and numbers.
+    /// The index of each request in `made`, by its bytes, and by its client and number. If several requests have the
+    /// same bytes, only the last one is found by them.
     places: HashMap<Vec<u8>, usize>,
     numbered: HashMap<(u64, u64), usize>,
-    /// The map since each revision that changed it.
+    /// The map after each revision that changed it.
     past: Vec<(u64, MapModel)>,
 }
 
@@ -94,24 +98,26 @@ impl ShardModel {
 #[derive(Default)]
 struct WorldModel {
     leader: u64,
-    /// How far the restarts of servers have come, by their numbers.
+    /// The settings in force.
+    settings: Option<DecodedSettings>,
+    /// The progress of each server's restart.
     states: HashMap<u64, u64>,
     /// The process that each server's state names.
     named: HashMap<u64, u64>,
-    /// The servers whose keys are there, and since which revisions without a break.
+    /// The servers whose keys are there, with the revision since which each key has been there without a break.
     there: HashMap<u64, u64>,
-    /// Up to which revisions servers say that they have read, whose keys are there.
+    /// The revision up to which each server says that it has read, if its key is there.
     followed: HashMap<u16, u64>,
-    /// The revisions at which servers' keys were written, which are there.
+    /// The revision at which each server's key was last written, if it is there.
     told: HashMap<u16, u64>,
-    /// The greatest generation up to which each server has acked a shard, whichever process did.
+    /// The greatest generation that each server has acked for a shard, by any of its processes.
     acks: HashMap<(u16, u64), u64>,
     shards: HashMap<u16, ShardModel>,
-    /// The bodies of all requests that carry a text of their own.
+    /// The bytes of all requests that must be unique.
     bodies: HashSet<Vec<u8>>,
 }
 
-/// Checks all that was made, in order, and all that was told.
+/// Checks all transactions in their order, and then all claims.
 pub fn check(made: &[(u64, Transaction)], claims: &[Claim]) -> Result<(), Broken> {
     let mut world = WorldModel::default();
     for (revision, transaction) in made {
@@ -136,8 +142,10 @@ impl WorldModel {
             match *key {
                 DecodedKey::Process | DecodedKey::Commands | DecodedKey::Lowest(_) => {}
                 DecodedKey::Drain(_) | DecodedKey::Home(_) => {}
+                DecodedKey::Settings => self.settle(bytes, txn)?,
                 DecodedKey::Leader => self.leader = found(reading::process(bytes), txn)?,
                 DecodedKey::Server(server) => self.follow(server, bytes, revision, txn)?,
+                DecodedKey::Ran(server) => self.run(server, txn)?,
                 DecodedKey::Ack(shard, server) => self.ack(shard, server, bytes, txn)?,
                 DecodedKey::State(server) => self.restart(u64::from(server), bytes, txn)?,
                 DecodedKey::Record(shard) => self.change(shard, bytes, revision, txn)?,
@@ -160,7 +168,8 @@ impl WorldModel {
         txn.deletes.iter().try_for_each(|it| self.delete(*it))
     }
 
-    /// Notes up to which revision a server has read. One that has read nothing goes by nothing.
+    /// Checks that a server writes its key only over its own key. Notes up to which revision it has read. If it has
+    /// read nothing, it executes by no record, so nothing is noted.
     fn follow(
         &mut self,
         server: u16,
@@ -183,7 +192,21 @@ impl WorldModel {
         Ok(())
     }
 
-    /// A server acks a record that is replaced, or by which it doesn't execute, and tells that with its key.
+    /// Checks a process that is about to execute. It must compare its server's key, because another process may have
+    /// taken the server over.
+    fn run(&self, server: u16, txn: &Written) -> Result<(), Broken> {
+        let told = self.told.get(&server).copied().unwrap_or(0);
+        if !txn.compares.contains(&(DecodedKey::Server(server), told)) {
+            return broken(
+                "who executes looks at its server's key",
+                format!("{server}, told at {told}, {txn:?}"),
+            );
+        }
+        Ok(())
+    }
+
+    /// Checks an ack. The record must be replaced, or the server must not execute by it. The same transaction must
+    /// write the server's key.
     fn ack(&mut self, shard: u16, server: u16, bytes: &[u8], txn: &Written) -> Result<(), Broken> {
         let generation = found(reading::process(bytes), txn)?;
         let record = self.shards.entry(shard).or_default().record;
@@ -206,14 +229,15 @@ impl WorldModel {
         Ok(())
     }
 
-    /// Whether the server has let go of the shard's record as it is.
+    /// Returns whether the server has let go of this record of the shard. If the server has failed, it has.
     fn has_let_go(&self, shard: u16, server: u64, record: &DecodedRecord) -> bool {
         let acked = self.acks.get(&(shard, server));
         let is_failed = self.states.get(&server) == Some(&FAILED);
         is_failed || acked.is_some_and(|&it| it >= record.generation)
     }
 
-    /// A command is by who leads, as it says itself, and is written to the key of commands.
+    /// Checks a command. The process that it names must lead, and the transaction must write that process to the key of
+    /// commands.
     fn command(&self, process: u64, txn: &Written) -> Result<(), Broken> {
         let is_noted = txn
             .puts
@@ -228,8 +252,71 @@ impl WorldModel {
         Ok(())
     }
 
-    /// Whether a server that is there since before this revision hasn't read up to it. Of one that came later, as its
-    /// lease had ended, whoever leads may not know.
+    /// Checks settings. If they aren't the first ones, the leader must write them, and must compare the leader's key
+    /// and the key of commands. Then it has judged all records and states as they are. The present state must keep to
+    /// the settings.
+    fn settle(&mut self, bytes: &[u8], txn: &Written) -> Result<(), Broken> {
+        let is_first = txn.compares.contains(&(DecodedKey::Settings, 0));
+        let compares = |key| txn.compares.iter().any(|it| it.0 == key);
+        if is_first != self.settings.is_none() {
+            return broken("settings are first once", format!("{txn:?}"));
+        }
+        if !is_first {
+            self.command(self.leader, txn)?;
+            if !(compares(DecodedKey::Leader) && compares(DecodedKey::Commands)) {
+                return broken(
+                    "settings compare what they were judged by",
+                    format!("{txn:?}"),
+                );
+            }
+        }
+        self.settings = Some(found(DecodedSettings::of(bytes), txn)?);
+        self.keep_capacities(txn)?;
+        // Only approved and stopped servers count here, and not those that have failed.
+        self.keep_ops(|it| it == APPROVED || it == STOPPED, txn)
+    }
+
+    /// Checks that no server has more shards than its capacity, and that the settings in force have each server that a
+    /// record names.
+    fn keep_capacities(&self, txn: &Written) -> Result<(), Broken> {
+        let mut loads = HashMap::new();
+        for record in self.shards.values().map(|it| it.record) {
+            let named = [record.owner, record.other];
+            let named = named.into_iter().filter(|it| *it > 0);
+            named.for_each(|it| *loads.entry(it).or_insert(0) += 1);
+        }
+        let capacities = self.settings.as_ref().map(|it| &it.capacities);
+        let room = |server| capacities.and_then(|it| it.get(server)).copied();
+        match loads
+            .iter()
+            .all(|(server, load)| room(server) >= Some(*load))
+        {
+            true => Ok(()),
+            false => broken(
+                "capacities of the settings in force are kept",
+                format!("{:?}, {loads:?}, {txn:?}", self.settings),
+            ),
+        }
+    }
+
+    /// Checks that no more servers are away than the settings in force allow. `counts` says whether a state counts as
+    /// away. Servers that aren't in these settings don't count.
+    fn keep_ops(&self, counts: fn(u64) -> bool, txn: &Written) -> Result<(), Broken> {
+        let settings = found(self.settings.as_ref(), txn)?;
+        let counted = |(server, state): &(&u64, &u64)| {
+            counts(**state) && settings.capacities.contains_key(server)
+        };
+        match self.states.iter().filter(counted).count() as u64 <= settings.ops {
+            true => Ok(()),
+            false => broken(
+                "no more servers are away than the settings in force let",
+                format!("{settings:?}, {:?}, {txn:?}", self.states),
+            ),
+        }
+    }
+
+    /// Returns whether a server that was there before this revision hasn't read up to it. A server that came later,
+    /// because its lease had ended, doesn't count: the leader may not know about it.
     fn has_left_behind(&self, stood: u64) -> bool {
         let mut followed = self.followed.iter();
         followed.any(|(server, &it)| {
@@ -286,10 +373,14 @@ impl WorldModel {
         }
         let shard = self.shards.entry(shard).or_default();
         (shard.record, shard.stood) = (next, revision);
-        Ok(())
+        match comes {
+            0 => Ok(()),
+            _ => self.keep_capacities(txn),
+        }
     }
 
-    /// A step of a server's restart, of which one at a time may be approved.
+    /// Checks a step of a server's restart. If the step is an approval, no more servers may be leaving than the
+    /// settings in force allow.
     fn restart(&mut self, server: u64, bytes: &[u8], txn: &Written) -> Result<(), Broken> {
         let (state, process, named) = found(reading::state(bytes), txn)?;
         self.command(process, txn)?;
@@ -307,11 +398,13 @@ impl WorldModel {
             (from, FAILED) => from != FAILED,
             _ => false,
         };
-        let is_alone = self.states.values().filter(|&&it| it > 1).count() <= 1;
         let is_idle = self.shards.values().all(|it| {
             it.record.phase == 5 || it.record.owner != server && it.record.other != server
         });
-        if !is_step || state == 2 && !is_alone || state == 3 && !is_idle {
+        if state == APPROVED {
+            self.keep_ops(|it| it > 1, txn)?;
+        }
+        if !is_step || state == 3 && !is_idle {
             return broken(
                 "a step of a restart is legal",
                 format!("{server} from {before} to {state}: {:?}", self.states),
@@ -323,7 +416,7 @@ impl WorldModel {
         Ok(())
     }
 
-    /// A server is stopped once it has let go of all shards that are paused for it.
+    /// Checks that the server has let go of all shards that are paused for it. If it hasn't, it must not be stopped.
     fn stop(&self, server: u64) -> Result<(), Broken> {
         let held = self.shards.iter().filter(|(&shard, it)| {
             let is_paused = it.record.phase == 5 && it.record.owner == server;
@@ -338,8 +431,9 @@ impl WorldModel {
         }
     }
 
-    /// A state names a process of the server that began no earlier than the one before, and later if the server was
-    /// stopped and is up again.
+    /// Checks the process that a server's state names. It must not have begun earlier than the process that the last
+    /// state named. If the server was stopped and is up again, it must have begun later. If the server is stopped, the
+    /// state must name a process.
     fn name_process(
         &mut self,
         server: u64,
@@ -372,7 +466,7 @@ impl WorldModel {
         Ok(())
     }
 
-    /// A head comes to name a base.
+    /// Checks a head that names another base.
     fn name(&mut self, shard: u16, bytes: &[u8], txn: &Written) -> Result<(), Broken> {
         let [batches, base, parts] = found(reading::head(bytes), txn)?;
         let shard = self.shards.entry(shard).or_default();
@@ -410,7 +504,7 @@ impl WorldModel {
                 shard.bases.remove(&number);
                 number < shard.base
             }
-            // They lay under a lease that ended.
+            // These keys lay under a lease that ended.
             DecodedKey::Leader => {
                 self.leader = 0;
                 true
@@ -422,7 +516,7 @@ impl WorldModel {
                 true
             }
             DecodedKey::Ack(..) => true,
-            // They are withdrawn.
+            // These intents are done, or are withdrawn.
             DecodedKey::Drain(_) | DecodedKey::Home(_) => true,
             _ => false,
         };
@@ -459,7 +553,7 @@ impl WorldModel {
 
     fn item(&mut self, shard: u16, server: u64, item: &Item, revision: u64) -> Result<(), Broken> {
         let body = &item.request;
-        // A text of four bytes or more is of one request alone, and so is what is added.
+        // Each put, append and add of the simulator has a text or an amount of its own, so its bytes must be unique.
         if matches!(body.first(), Some(2..=4)) && !self.bodies.insert(body.clone()) {
             return broken("a client's request is made once", format!("{item:?}"));
         }
@@ -499,7 +593,7 @@ impl WorldModel {
 }
 
 impl ShardModel {
-    /// Carries out a request, and notes it.
+    /// Carries out a request and notes it.
     fn apply(&mut self, item: &Item, since: u64) {
         let Item {
             client,
@@ -527,7 +621,8 @@ impl ShardModel {
         });
     }
 
-    /// The requests that are made of those with these bytes, which were asked together: the first is like no other.
+    /// Returns those of the requests with these bytes that were made. They were asked together, and the bytes of the
+    /// first one must be unique.
     fn made_of(&self, claim: &Claim, bodies: &[Vec<u8>]) -> &[One] {
         let place = match claim.numbered {
             Some((client, number)) => self.numbered.get(&(first_of(client), number)),
@@ -539,7 +634,7 @@ impl ShardModel {
         &made[..count]
     }
 
-    /// What is promised of such a claim, and whether it holds of this one.
+    /// Returns the promise that this kind of claim gives, and whether the claim keeps it.
     fn keeps(&self, claim: &Claim) -> (&'static str, bool) {
         match &claim.said {
             Said::Made {
@@ -578,7 +673,8 @@ impl ShardModel {
         }
     }
 
-    /// Whether a later number of the client was made, and this one isn't made after that.
+    /// Returns whether a later request of the client had been made when the client was told. If this request was made
+    /// after that, returns false.
     fn is_passed(&self, claim: &Claim) -> bool {
         let Some((client, number)) = claim.numbered else {
             return false;
@@ -591,7 +687,7 @@ impl ShardModel {
     }
 }
 
-/// The client by whose number a shard keeps the first request of one that numbers them.
+/// Returns the number under which a shard keeps the first request of a client that numbers its requests.
 fn first_of(client: u64) -> u64 {
     1 << 63 | client << 8
 }

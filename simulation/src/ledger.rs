@@ -2,18 +2,18 @@ use crate::operator_command::OperatorCommand;
 use std::collections::BTreeSet;
 use std::sync::{Arc, Mutex};
 
-/// All that operators asked.
+/// Everything that operators asked.
 pub type SharedLedger = Arc<Mutex<Ledger>>;
 
-/// What operators ask of controls, and what they are told.
+/// The commands of operators to controls, and the answers.
 #[derive(Debug, Default)]
 pub struct Ledger {
     pub commands: Vec<OperatorCommand>,
     /// The processes that have ended.
     pub ended: BTreeSet<u64>,
-    /// A command whose process goes on, and that it forgot.
+    /// A command that a process forgot although it still runs.
     pub forgotten: Option<String>,
-    /// A step whose process goes on, and that its link dropped.
+    /// A step that a link dropped although its process still runs.
     pub dropped: Option<String>,
 }
 

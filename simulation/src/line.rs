@@ -11,19 +11,19 @@ use durkenzo_store::{
 use std::sync::MutexGuard;
 use std::time::Duration;
 
-/// How much room there is mostly.
+/// How many bytes of room are usually left.
 const ROOM: u64 = 1 << 30;
 
-/// A process's way to the store. Whoever sends a transaction by [`Store::make`] has its answer at once, and some of
-/// what others have sent is made before that. What is sent by [`Store::submit`] is made when the schedule says so.
+/// A process's way to the store. [`Store::make`] returns the outcome at once, but a transaction of another sender may
+/// be made before. A transaction that was given to [`Store::submit`] is made when the schedule says so.
 pub struct Line {
     shared: SharedStore,
-    /// The number of its way to members.
+    /// The number of its route to the members.
     route: usize,
 }
 
 impl Line {
-    /// Returns a way of its own for the process at this place.
+    /// Returns a line for the process at this place, with its own route.
     pub fn of(shared: &SharedStore, place: usize) -> Line {
         Line {
             shared: shared.clone(),
@@ -35,7 +35,8 @@ impl Line {
         locked(&self.shared)
     }
 
-    /// The store, once it was reached to read it, and others have gone on.
+    /// Returns the store for a read. A transaction of another sender may be made before. Fails if the read is lost, or
+    /// if no member answers.
     fn reached(&self) -> Result<MutexGuard<'_, SimulatedStore>, ReadError> {
         let mut store = self.store();
         store.let_others_write();

@@ -2,14 +2,15 @@ use crate::chance::Chance;
 use crate::time::Time;
 use std::time::{Duration, Instant};
 
-/// How many ticks clocks count in the time in which an exact one counts so many.
+/// How many ticks an exact clock counts in some time. Other clocks count more or fewer ticks in the same time.
 const EXACT: u32 = 1_000;
-/// By how many of these ticks a clock is slow at most that is within the bound.
+/// How many of these ticks a clock may lose, if it is within the bound.
 pub const DRIFT: u32 = 300;
-/// Where clocks begin at the latest, in seconds.
+/// Each clock begins at a time below this, in seconds.
 const LATEST: u64 = 1_000;
 
-/// The clock of a machine, by which its processes go: it begins anywhere, and is fast or slow. It never goes back.
+/// The clock of a machine, which all its processes read. It begins at a random time, and may be fast or slow. It never
+/// goes back.
 #[derive(Clone)]
 pub struct MachineClock {
     time: Time,
@@ -17,19 +18,19 @@ pub struct MachineClock {
     ticks: u32,
 }
 
-/// How the clocks of a schedule are.
+/// How exact the clocks of a schedule are.
 #[derive(Clone, Copy, Debug, PartialEq, Eq)]
 pub enum Clocks {
-    /// All count alike.
+    /// All clocks are exact.
     Exact,
-    /// None is slower than the bound.
+    /// No clock is slower than the bound.
     Within,
-    /// Some may be slower.
+    /// Some clocks may be slower than the bound.
     Beyond,
 }
 
 impl Clocks {
-    /// Returns how they are in a schedule.
+    /// Draws how exact the clocks of a schedule are.
     pub fn drawn(chance: &mut Chance) -> Clocks {
         match chance.below(8) {
             0..=2 => Clocks::Exact,
@@ -38,7 +39,7 @@ impl Clocks {
         }
     }
 
-    /// Returns the clock of a machine.
+    /// Draws the clock of a machine.
     pub fn of_machine(self, chance: &mut Chance, time: &Time) -> MachineClock {
         let slowest = EXACT - DRIFT;
         let ticks = match (self, chance.below(3)) {
@@ -54,7 +55,7 @@ impl Clocks {
         }
     }
 
-    /// Returns how long it takes at most until the slowest of such clocks counts this time.
+    /// Returns the longest time until each of these clocks has counted this time.
     pub fn longest(self, counted: Duration) -> Duration {
         let slowest = match self {
             Clocks::Exact => EXACT,
@@ -66,17 +67,17 @@ impl Clocks {
 }
 
 impl MachineClock {
-    /// Returns the time that it shows.
+    /// Returns the time that the clock shows.
     pub fn passed(&self) -> Duration {
         self.began + self.time.passed() * self.ticks / EXACT
     }
 
-    /// Returns this moment. Only the time between two moments of one machine is of the schedule.
+    /// Returns this moment. The seed decides only the time between two moments of one machine.
     pub fn now(&self) -> Instant {
         self.time.moment(self.passed())
     }
 
-    /// Returns the moment by this clock at which it was that one by the other clock.
+    /// Returns the moment that is as long ago by this clock as `moment` is by the other clock.
     pub fn moment_of(&self, other: &MachineClock, moment: Instant) -> Instant {
         let passed = other.now().saturating_duration_since(moment);
         let now = self.now();

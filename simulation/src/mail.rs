@@ -1,4 +1,4 @@
-//! What processes send to one another: steps that another one's server executes, and what became of them there.
+//! The mail between processes: steps that the server of another process executes, and their outcomes.
 use crate::command_mail::{CommandAnswer, CommandMessage};
 use durkenzo_driver::{Elsewhere, MapReply, MapRequest, NotDone, Work, WorkOutcome, WorkStep};
 use std::sync::{Arc, Mutex};
@@ -17,7 +17,7 @@ pub struct Message {
     pub steps: Vec<WorkStep>,
 }
 
-/// What became of a step, on its way back.
+/// The outcome of a step, on its way back.
 pub struct StepAnswer {
     pub sender: Sender,
     pub elsewhere: Elsewhere,
@@ -29,23 +29,23 @@ pub struct StepAnswer {
 pub struct Mail {
     pub messages: Vec<Message>,
     pub answers: Vec<StepAnswer>,
-    /// Commands for the controls of other processes, and what became of them.
+    /// Commands for the controls of other processes, and their outcomes.
     pub commands: Vec<CommandMessage>,
     pub commands_back: Vec<CommandAnswer>,
 }
 
 impl Mail {
-    /// Returns whether nothing is on its way.
+    /// Returns whether there is no mail.
     pub fn is_empty(&self) -> bool {
         let is_of_steps = self.messages.is_empty() && self.answers.is_empty();
         is_of_steps && self.commands.is_empty() && self.commands_back.is_empty()
     }
 }
 
-/// All that is on its way.
+/// All mail on its way, which the processes share.
 pub type Mails = Arc<Mutex<Mail>>;
 
-/// A step that came from another process. If this one crashes, that one hears that its connection broke.
+/// A step that came from another process. If this process crashes, the other one hears that its connection broke.
 struct Visiting {
     mails: Mails,
     sender: Sender,
@@ -98,12 +98,12 @@ impl Drop for Visiting {
     }
 }
 
-/// What a process makes of work whose answer it won't get.
+/// Returns the reason with which a process ends work if its answer can't arrive any more.
 pub fn broken() -> NotDone {
     NotDone::Unknown("the connection broke".to_owned())
 }
 
-/// The message's steps as the other process has them.
+/// Returns the message's steps as the receiving process executes them.
 pub fn visiting(mails: &Mails, message: Message) -> Vec<WorkStep> {
     let steps = message.steps.into_iter();
     let visits = steps.map(|step| WorkStep {

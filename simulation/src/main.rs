@@ -1,11 +1,13 @@
-//! Runs schedules, and says what was broken: by which seed and faults, the fewest that break it, with a timeline.
+//! Runs schedules until one breaks a law. Then prints the seed, the fewest faults that still break the law, and the
+//! timeline.
 //!
-//!     simulation [--schedules N] [--seed S] [--bug NAME] [--seconds T] [--processor-seconds T]
-//!     simulation --show S [--bug NAME] [--keep FAULTS]
-//!     simulation --picture S [--bug NAME] [--keep FAULTS]
+//!     simulation [--schedules N] [--seed S] [--seconds T] [--processor-seconds T] [--part PART] [--bug NAME]
+//!     simulation --show S [--part PART] [--bug NAME] [--keep FAULTS]
+//!     simulation --picture S [--part PART] [--bug NAME] [--keep FAULTS]
 //!     simulation --transcript S
 //!
-//! FAULTS are numbered ones with commas between, as `crash 1, pause 2`; all strike if none are named.
+//! FAULTS are numbered faults, separated by commas, such as `crash 1, pause 2`. If `--keep` isn't given, all faults
+//! strike.
 use rustix::time::{clock_gettime, ClockId};
 use simulation::bug::{Bug, BUGS};
 use simulation::fault::{Fault, NumberedFault};
@@ -21,7 +23,7 @@ use std::time::{Duration, Instant};
 const USAGE: &str = "usage: simulation [--schedules N] [--seed S] [--seconds T] [--processor-seconds T] [--part PART]
                   [--bug NAME]
        simulation --show S [--part PART] [--bug NAME] [--keep FAULTS]
-       simulation --picture S [--bug NAME] [--keep FAULTS]
+       simulation --picture S [--part PART] [--bug NAME] [--keep FAULTS]
        simulation --transcript S";
 
 struct Options {
@@ -29,7 +31,7 @@ struct Options {
     seed: u64,
     seconds: u64,
     processor_seconds: u64,
-    /// The only part that is run; all are if none is named.
+    /// The only part that runs. If none is named, the bug's part runs, or the usual parts if there is no bug.
     part: Option<Part>,
     bug: Option<Bug>,
     kept: Kept,
@@ -37,17 +39,17 @@ struct Options {
     show: Option<u64>,
     /// The seed of the schedule that is drawn as a picture.
     picture: Option<u64>,
-    /// The seed of the schedule of which all is shown that was made and told.
+    /// The seed of the schedule whose transactions, claims and commands are all printed.
     transcript: Option<u64>,
 }
 
 impl Options {
-    /// The parts of each seed that are run: bugs are of processes.
+    /// Returns the parts of each seed that run. A bug belongs to one part.
     fn parts(&self) -> Vec<Part> {
         match (self.part, self.bug) {
             (Some(part), _) => vec![part],
-            (None, Some(_)) => vec![Part::Processes],
-            (None, None) => Part::ALL.to_vec(),
+            (None, Some(bug)) => vec![bug.part()],
+            (None, None) => Part::USUAL.to_vec(),
         }
     }
 }
@@ -87,7 +89,7 @@ fn wanted() -> Option<Options> {
     Some(wanted)
 }
 
-/// The fault that is told so.
+/// Reads a numbered fault from this text.
 fn numbered(text: &str) -> Option<NumberedFault> {
     let (name, number) = text.trim().rsplit_once(' ')?;
     let fault = Fault::ALL.into_iter().find(|it| it.name() == name)?;
@@ -97,7 +99,7 @@ fn numbered(text: &str) -> Option<NumberedFault> {
     })
 }
 
-/// The time for which a processor has run this.
+/// Returns how much processor time this program has used.
 fn processor_time() -> Duration {
     let spent = clock_gettime(ClockId::ProcessCPUTime);
     Duration::new(spent.tv_sec.unsigned_abs(), spent.tv_nsec as u32)
@@ -106,9 +108,8 @@ fn processor_time() -> Duration {
 fn main() -> ExitCode {
     let Some(wanted) = wanted() else {
         eprintln!(
-            "{USAGE}\nparts: {}, {}\nbugs: {BUGS:?}",
-            Part::ALL[0],
-            Part::ALL[1]
+            "{USAGE}\nparts: {}\nbugs: {BUGS:?}",
+            Part::ALL.map(|it| it.to_string()).join(", ")
         );
         return ExitCode::from(2);
     };
@@ -116,10 +117,13 @@ fn main() -> ExitCode {
         println!("{}", transcript(seed));
         return ExitCode::SUCCESS;
     }
-    let plan = |seed| Plan {
-        kept: wanted.kept.clone(),
-        part: wanted.part.unwrap_or(Part::Processes),
-        ..Plan::new(seed, wanted.bug)
+    let plan = |seed| {
+        let plan = Plan::new(seed, wanted.bug);
+        Plan {
+            kept: wanted.kept.clone(),
+            part: wanted.part.unwrap_or(plan.part),
+            ..plan
+        }
     };
     match (wanted.show, wanted.picture) {
         (Some(seed), _) => show(&plan(seed)),
@@ -128,7 +132,8 @@ fn main() -> ExitCode {
     }
 }
 
-/// Runs one schedule, and draws it. A law that it breaks stands in the picture. Only processes are drawn.
+/// Runs one schedule and draws it. If it breaks a law, the picture says so. Only the parts `processes` and `fleet` have
+/// pictures.
 fn draw(plan: Plan) -> ExitCode {
     let part = plan.part;
     let ran = run_by(&Plan {
@@ -147,7 +152,7 @@ fn draw(plan: Plan) -> ExitCode {
     }
 }
 
-/// Runs schedules until one breaks a law, or time is over.
+/// Runs schedules until one breaks a law, or until there are enough, or until the time is over.
 fn search(wanted: &Options) -> ExitCode {
     let (begun, mut all, mut count) = (Instant::now(), Tally::default(), 0);
     let limit = Duration::from_secs(wanted.seconds.min(1 << 40));
@@ -187,7 +192,7 @@ fn search(wanted: &Options) -> ExitCode {
     ExitCode::SUCCESS
 }
 
-/// Runs one schedule, and shows its timeline, the faults that struck, and the law that it broke.
+/// Runs one schedule. Shows its timeline, the faults that struck, and the law that it broke.
 fn show(plan: &Plan) -> ExitCode {
     let ran = run_by(&Plan {
         is_shown: true,

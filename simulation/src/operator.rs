@@ -1,7 +1,7 @@
-//! What operators ask of a cluster by chance.
+//! Random commands of a cluster's operators.
 use crate::chance::Chance;
 
-/// Returns a command, of these many shards and servers.
+/// Returns a random command for a cluster with these numbers of shards and servers.
 pub fn asked(chance: &mut Chance, shards: u16, servers: u16) -> Vec<String> {
     let shard = chance.below(u64::from(shards)).to_string();
     let server = (1 + chance.below(u64::from(servers))).to_string();

@@ -7,30 +7,31 @@ use std::sync::Arc;
 #[derive(Debug)]
 pub struct OperatorCommand {
     pub words: Vec<String>,
-    /// The process to which it was given.
+    /// The process that got the command.
     pub life: u64,
-    /// The store's revision when it was asked, and when it was answered.
+    /// The store's revision when the operator asked, and when the answer came, with the answer.
     pub since: u64,
     pub told: Option<(u64, String)>,
-    /// Whether nobody can answer it any more: its process has ended.
+    /// Whether nobody can answer the command any more, because its process ended or dropped it.
     pub is_over: bool,
     pub is_awaited: Arc<AtomicBool>,
 }
 
 impl OperatorCommand {
-    /// Returns whether it is still to be answered.
+    /// Returns whether the command is still to be answered.
     pub fn is_open(&self) -> bool {
         let is_awaited = self.is_awaited.load(Ordering::Relaxed);
         is_awaited && self.told.is_none() && !self.is_over
     }
 
-    /// Returns whether it was told that it was done.
+    /// Returns whether the answer says that the command was done.
     pub fn is_done(&self) -> bool {
         let told = self.told.as_ref().map(|it| it.1.as_str());
         told.is_some_and(|it| !NOT_DONE.iter().any(|begin| it.starts_with(begin)))
     }
 
-    /// Returns whether what was told of it was so at some moment between the command and the answer.
+    /// Returns whether the answer was true at some moment between the command and the answer. If it doesn't say that
+    /// the command was done, it counts as true.
     pub fn is_true(&self, store: &SharedStore) -> bool {
         let Some((at, told)) = self.told.as_ref().filter(|_| self.is_done()) else {
             return true;
@@ -58,7 +59,7 @@ impl OperatorCommand {
     }
 }
 
-/// What lay in the store between two revisions.
+/// The values in the store between two revisions.
 struct Past<'a> {
     store: &'a SharedStore,
     since: u64,
@@ -66,13 +67,13 @@ struct Past<'a> {
 }
 
 impl Past<'_> {
-    /// Whether the shard's record was such.
+    /// Returns whether the shard ever had a record for which `is_so` holds.
     fn has_record(&self, shard: u16, is_so: impl Fn(DecodedRecord) -> bool) -> bool {
         let key = format!("record/{shard:05}");
         self.has(&key, |it| DecodedRecord::of(it).is_some_and(&is_so))
     }
 
-    /// Whether the server's state was this one.
+    /// Returns whether the server was ever in this state.
     fn has_state(&self, server: u16, state: u64) -> bool {
         let key = format!("state/{server:05}");
         self.has(&key, |it| {
@@ -87,7 +88,7 @@ impl Past<'_> {
     }
 }
 
-/// How answers begin that don't tell what was done.
+/// The beginnings of answers that don't say that the command was done.
 const NOT_DONE: [&str; 3] = ["REFUSED", "UNKNOWN", "PEERDOWN"];
 /// A record or a state that was never written.
 const VACANT: [u8; 17] = {
@@ -102,7 +103,7 @@ const UP: u64 = 0;
 const STOPPED: u64 = 3;
 const FAILED: u64 = 4;
 
-/// The shard and the server of a line that tells where a shard went.
+/// Reads the shard and the server from a line about a shard that moved.
 fn moved(line: &str) -> Option<(u16, u16)> {
     let (shard, server) = line.split_once('>')?;
     Some((shard.parse().ok()?, server.parse().ok()?))

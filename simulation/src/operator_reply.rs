@@ -6,17 +6,17 @@ use std::fmt;
 use std::sync::atomic::{AtomicBool, Ordering};
 use std::sync::Arc;
 
-/// Where the answer to an operator's command goes.
+/// The destination of the answer to an operator's command.
 pub struct OperatorReply {
     ledger: SharedLedger,
     store: SharedStore,
-    /// The command's place in the ledger; none once it is answered.
+    /// The command's index in the ledger. It is `None` once the command is answered.
     place: Option<usize>,
     is_awaited: Arc<AtomicBool>,
 }
 
 impl OperatorReply {
-    /// Notes a command that is given to this process, and returns where its answer goes.
+    /// Notes that an operator gives this command to this process. Returns the destination of the answer.
     pub fn of(
         (ledger, store): (&SharedLedger, &SharedStore),
         words: &[String],
@@ -91,7 +91,7 @@ impl fmt::Debug for OperatorReply {
     }
 }
 
-/// An answer as an operator reads it.
+/// Returns the answer as an operator reads it.
 pub fn text(answer: Result<ControlAnswer, Refusal>) -> String {
     match answer {
         Ok(ControlAnswer::Done) => "OK".to_owned(),

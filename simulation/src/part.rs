@@ -1,23 +1,33 @@
 use std::fmt;
 use std::str::FromStr;
 
-/// What a schedule runs.
+/// The part of the system that a schedule runs.
 #[derive(Clone, Copy, Debug, PartialEq, Eq)]
 pub enum Part {
-    /// Processes, by driver, control and links, over a store that answers by a client of its own.
+    /// Processes with the driver, the control and the links. The simulator takes the place of the store's client.
     Processes,
-    /// The client of etcd in the store's crate, over members that answer by JSON.
+    /// The client of etcd in the store's crate. The members answer it in JSON.
     EtcdClient,
+    /// Processes and clients of a fleet, over the same store as `Processes`.
+    Fleet,
+    /// A store in a folder: SQLite over a disk that fails.
+    Folder,
 }
 
 impl Part {
-    /// All of them, in their order.
-    pub const ALL: [Part; 2] = [Part::Processes, Part::EtcdClient];
+    /// All parts, in their order.
+    pub const ALL: [Part; 4] = [Part::Processes, Part::EtcdClient, Part::Fleet, Part::Folder];
+
+    /// The parts that each seed runs if none is named. A fleet isn't among them, because its schedules take eight times
+    /// as long. A folder isn't among them either.
+    pub const USUAL: [Part; 2] = [Part::Processes, Part::EtcdClient];
 
     fn name(self) -> &'static str {
         match self {
             Part::Processes => "processes",
             Part::EtcdClient => "etcd-client",
+            Part::Fleet => "fleet",
+            Part::Folder => "folder",
         }
     }
 }

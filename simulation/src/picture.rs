@@ -1,19 +1,19 @@
-//! A schedule as a picture: a column for the store and for each process, in which each event has a row.
+//! Draws a schedule as a picture. The store and each process have a column, and each event has a row.
 use crate::law::Broken;
 use crate::timeline::{Column, Event};
 use std::fmt::Write;
 
-/// How wide the times, a column and a letter are, and how high a row is and what stands above the first one.
+/// How wide the times, a column and a letter are. How high a row is, and the space above the first row.
 const TIMES: usize = 52;
 const COLUMN: usize = 190;
 const LETTER: usize = 6;
 const ROW: usize = 12;
 const HEAD: usize = 34;
-/// How many letters of an event are shown: a browser tells the others.
+/// How many letters of an event are shown. A browser shows the others when the pointer is on the event.
 const LETTERS: usize = (COLUMN - 8) / LETTER;
-/// How many rows a picture has at most: of longer schedules it has the last ones.
+/// How many rows a picture has at most. If a schedule is longer, only its last rows are drawn.
 const MOST_ROWS: usize = 2_000;
-/// How events begin that are faults.
+/// The beginning of an event that is a fault.
 const FAULT: &str = "! ";
 
 const STYLE: &str = "text{font:10px monospace;fill:#222} .time{fill:#777} .head{font-weight:bold} .store{fill:#1c3a57} \
@@ -21,18 +21,18 @@ const STYLE: &str = "text{font:10px monospace;fill:#222} .time{fill:#777} .head{
 @media(prefers-color-scheme:dark){text{fill:#ddd} .time{fill:#999} .store{fill:#a9cbe8} .fault{fill:#ff6b81} \
 .paper{fill:#161616} .runs{fill:#22303d} .line{stroke:#333}}";
 
-/// What a picture is of.
+/// A picture of a schedule.
 pub struct Picture<'a> {
-    /// What stands above it.
+    /// The title above the picture.
     pub title: String,
-    /// The names of the processes by their places.
+    /// The names of the processes, by their places.
     pub names: &'a [String],
     pub events: &'a [Event],
     pub broken: Option<&'a Broken>,
 }
 
 impl Picture<'_> {
-    /// Returns it as SVG.
+    /// Returns the picture as SVG.
     pub fn drawn(&self) -> String {
         let first = self.events.len().saturating_sub(MOST_ROWS);
         let (shown, rows) = (&self.events[first..], self.events.len() - first);
@@ -74,7 +74,7 @@ impl Picture<'_> {
         svg + "</svg>\n"
     }
 
-    /// The lines that tell what was broken.
+    /// Returns the lines about the law that was broken, or a line that says that none was.
     fn law(&self) -> Vec<String> {
         let Some(broken) = self.broken else {
             return vec!["all laws are kept".to_owned()];
@@ -86,7 +86,7 @@ impl Picture<'_> {
         [head].into_iter().chain(lines).collect()
     }
 
-    /// A bar for each life of a process.
+    /// Returns a bar for each life of a process.
     fn lives(&self, shown: &[Event]) -> String {
         let mut svg = String::new();
         for place in 0..self.names.len() {
@@ -108,7 +108,7 @@ impl Picture<'_> {
     }
 }
 
-/// What is noted of a process that has ended.
+/// The text of the event with which a process ends.
 pub const GONE: &str = "is gone";
 
 fn bar(place: usize, since: usize, until: usize) -> String {
@@ -128,7 +128,8 @@ fn drawn_event(event: &Event, bottom: usize) -> String {
     text(TIMES + COLUMN * place, bottom, class, &event.text)
 }
 
-/// A text whose bottom is there. If it is too long for a column, its beginning: a browser tells the whole.
+/// Returns a text whose bottom is there. If an event is too long for its column, it is cut, and a browser shows all of
+/// it when the pointer is on it.
 fn text(left: usize, bottom: usize, class: &str, whole: &str) -> String {
     let is_long = matches!(class, "event" | "store") && whole.chars().count() > LETTERS;
     let shown: String = match is_long {
@@ -150,7 +151,7 @@ fn text(left: usize, bottom: usize, class: &str, whole: &str) -> String {
     svg
 }
 
-/// The text as SVG spells it.
+/// Returns the text as SVG spells it.
 fn escaped(text: &str) -> String {
     text.replace('&', "&amp;")
         .replace('<', "&lt;")

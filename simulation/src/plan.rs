@@ -1,4 +1,4 @@
-//! What a schedule is run by, and what comes of it.
+//! The plan of a schedule, and its results.
 use crate::bug::Bug;
 use crate::fault::NumberedFault;
 use crate::faults::Kept;
@@ -6,21 +6,21 @@ use crate::law::Broken;
 use crate::part::Part;
 use crate::tally::Tally;
 
-/// What a schedule is run by. Two runs by one plan are the same, byte for byte.
+/// The plan of a schedule. Two runs of one plan are the same, byte for byte.
 #[derive(Clone, Debug)]
 pub struct Plan {
     pub seed: u64,
-    /// What it runs.
+    /// The part that runs.
     pub part: Part,
     pub bug: Option<Bug>,
-    /// Which of the faults strike that the seed draws.
+    /// Which faults strike, of those that the seed draws.
     pub kept: Kept,
-    /// Whether its timeline is kept.
+    /// Whether the timeline is kept.
     pub is_shown: bool,
 }
 
 impl Plan {
-    /// Returns a plan for this part, of all faults of this seed, whose timeline isn't kept.
+    /// Returns a plan for this part of the seed. All faults strike, and the timeline isn't kept.
     pub fn of_part(seed: u64, part: Part) -> Plan {
         Plan {
             part,
@@ -28,11 +28,12 @@ impl Plan {
         }
     }
 
-    /// Returns a plan for processes, of all faults of this seed, whose timeline isn't kept.
+    /// Returns a plan for the part that finds the bug, or for the processes if there is no bug. All faults strike, and
+    /// the timeline isn't kept.
     pub fn new(seed: u64, bug: Option<Bug>) -> Plan {
         Plan {
             seed,
-            part: Part::Processes,
+            part: bug.map_or(Part::Processes, Bug::part),
             bug,
             kept: Kept::All,
             is_shown: false,
@@ -40,14 +41,14 @@ impl Plan {
     }
 }
 
-/// What came of a schedule.
+/// The results of a schedule.
 pub struct Ran {
     pub tally: Tally,
     pub verdict: Result<(), Broken>,
     /// The faults that struck, in their order.
     pub struck: Vec<NumberedFault>,
-    /// What happened, if it was to be shown.
+    /// The timeline, if it is kept.
     pub timeline: Option<String>,
-    /// The same as a picture, in SVG.
+    /// The timeline as a picture in SVG, if it is kept and the part has pictures.
     pub picture: Option<String>,
 }

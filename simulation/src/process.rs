@@ -1,10 +1,10 @@
 use crate::bug::Bug;
 use crate::control_shape::ControlShape;
+use crate::fleet::{FleetShape, RunningFleet};
 use crate::line::Line;
 use crate::links::{Inbox, LinkShape, LinkedHost};
 use crate::machine_clock::MachineClock;
 use crate::mail::{Mails, Message, Sender};
-use crate::permit_holder::PermitHolder;
 use crate::simulated_host::SimulatedHost;
 use crate::simulated_peers::SimulatedPeers;
 use crate::simulated_store::SharedStore;
@@ -13,63 +13,63 @@ use crate::world::SERVERS;
 use durkenzo_control::control::{Asked, Campaigner};
 use durkenzo_control::links::Links;
 use durkenzo_driver::{
-    Acks, Chores, Clock, Durable, DurableControl, HandOver, Member, OpenFault, Own, Tuning,
+    Acks, Chores, Clock, Durable, DurableControl, HandOver, Member, OpenFault, Own, ShardOptions,
 };
 use std::sync::atomic::AtomicBool;
 use std::sync::Arc;
 use std::time::Duration;
 
-/// How long leases are: as short as they can be.
+/// The length of leases. A member uses no shorter ones.
 pub const LEASE: Duration = Duration::from_secs(1);
 
-/// What a process runs with.
+/// Everything that a process needs from its surroundings.
 pub struct Surroundings<'a> {
     pub store: &'a SharedStore,
     pub mails: &'a Mails,
     pub clock: &'a MachineClock,
-    /// How its links are, if it has those that ship.
+    /// The shape of its links, if it has those that ship.
     pub links: Option<&'a LinkShape>,
-    /// Whether a service of it executes by permits, and acks.
-    pub has_permits: bool,
+    /// The shape of its fleet, if it belongs to one. Then its service executes by permits, and acks records itself.
+    pub fleet: Option<&'a FleetShape>,
     pub bug: Option<Bug>,
 }
 
-/// A process with one server, as it ships, but for its threads.
+/// A process with one server, as it ships, but without its threads.
 pub struct Process {
     pub sender: Sender,
     pub member: Arc<Member>,
     pub durable: Arc<Durable>,
     pub chores: Chores,
     pub control: Option<DurableControl>,
-    /// The control that ships, in schedules that have it, and what it is asked.
+    /// The control that ships and the requests to it, in schedules that have that control.
     pub campaigner: Option<Campaigner>,
     pub inbox: Inbox,
     /// The links that ship, in schedules that have them.
     pub links: Option<Links<LinkedHost>>,
-    /// When its control has its next turn, if nobody asks sooner.
+    /// The time of the control's next turn, if nobody asks sooner.
     due: Duration,
     clock: MachineClock,
     bug: Option<Bug>,
-    /// Who executes by permits, in schedules that have a service that does.
-    pub holder: Option<PermitHolder>,
-    /// Whether it is to stop.
+    /// The process's part of a fleet, in schedules that have one.
+    pub fleet: Option<RunningFleet>,
+    /// Whether the process was asked to stop.
     pub is_stopping: Arc<AtomicBool>,
-    /// Until when it does nothing.
+    /// The process does nothing before this time.
     pub paused_until: Duration,
-    /// What was read, and isn't told yet.
+    /// The readings that the process doesn't know of yet.
     pub read: Vec<Box<dyn FnOnce() + Send>>,
-    /// How many watches it has.
+    /// How many watches the process has.
     pub watches: usize,
 }
 
 impl Process {
-    /// Starts the shards of a process whose server is there, so many.
+    /// Opens the shards of a process whose server has joined. `shards` is their number.
     pub fn start(
         around: &Surroundings<'_>,
         sender: Sender,
         member: Arc<Member>,
         shards: u16,
-        tuning: Tuning,
+        shard_options: ShardOptions,
     ) -> Result<Process, OpenFault> {
         let (shared, shape, mails) = (around.store, around.links, around.mails);
         let own = around.clock.clone();
@@ -79,11 +79,11 @@ impl Process {
         let (durable, chores) = Durable::open_without_threads(
             Arc::new(Line::of(shared, sender.place)),
             shards,
-            tuning,
+            shard_options,
             Own {
                 member: member.clone(),
                 elsewhere: elsewhere.unwrap_or_else(|| posts(mails.clone(), sender)),
-                acks: match around.has_permits && around.bug != Some(Bug::EarlyLetGo) {
+                acks: match around.fleet.is_some() && around.bug != Some(Bug::EarlyLetGo) {
                     true => Acks::ByService,
                     false => Acks::AsRead,
                 },
@@ -95,10 +95,11 @@ impl Process {
             shape.begin(links, SERVERS, &durable, &inbox);
         }
         let clock = around.clock.clone();
-        let holder = PermitHolder::new(member.clone(), durable.clone(), clock.clone(), around.bug);
+        let fleet = around.fleet;
+        let fleet = fleet.map(|it| RunningFleet::start(it, sender, (&member, &durable), &clock));
         Ok(Process {
             sender,
-            holder: around.has_permits.then_some(holder),
+            fleet,
             member,
             durable,
             chores,
@@ -116,12 +117,12 @@ impl Process {
         })
     }
 
-    /// Returns the column of timelines that is its own.
+    /// Returns the process's column in timelines.
     pub fn column(&self) -> Column {
         Column::Process(self.sender.place)
     }
 
-    /// Gives it the control that ships.
+    /// Gives the process the control that ships.
     pub fn have_control(&mut self, mails: &Mails, shape: &ControlShape) {
         let host = SimulatedHost {
             is_stopping: self.is_stopping.clone(),
@@ -140,7 +141,7 @@ impl Process {
         self.bug = shape.bug;
     }
 
-    /// Its control takes what it was asked first, and does what is due.
+    /// Makes the control take its first request and do the work that is due.
     pub fn take_turn(&mut self) {
         if let Some(campaigner) = &mut self.campaigner {
             let asked = self.inbox.lock().expect("no panic").pop_front();
@@ -153,24 +154,24 @@ impl Process {
         }
     }
 
-    /// Its control has its turn if somebody asks or it is time for one, as on a thread of its own.
+    /// Gives the control a turn if it has requests or its turn is due. A thread of its own would do the same.
     pub fn take_turn_if_due(&mut self) {
         if self.is_asked() || self.due <= self.clock.passed() {
             self.take_turn();
         }
     }
 
-    /// Returns whether its control is asked for something that it hasn't taken.
+    /// Returns whether the control has requests that it hasn't taken.
     pub fn is_asked(&self) -> bool {
         !self.inbox.lock().expect("no panic").is_empty()
     }
 
-    /// Gives this to its control.
+    /// Gives this request to the control.
     pub fn ask(&self, asked: Asked) {
         self.inbox.lock().expect("no panic").push_back(asked);
     }
 
-    /// Does what its threads would do.
+    /// Does the work of the process's threads.
     pub fn do_chores(&mut self) {
         self.read.drain(..).for_each(|tell| tell());
         while let Some(tell) = self.chores.read(0) {
@@ -180,7 +181,7 @@ impl Process {
     }
 }
 
-/// Sends what goes to other processes.
+/// Returns the function that sends steps to other processes by mail.
 fn posts(mails: Mails, sender: Sender) -> HandOver {
     Box::new(move |elsewhere, steps| {
         let mut mail = mails.lock().expect("no schedule goes on after a panic");

@@ -1,4 +1,4 @@
-//! What lies in the store and what requests mean, read here anew: nothing of the proved library is used.
+//! Reads the values in the store, and the meanings of requests. It uses no code of the proved library.
 use crate::claim::{Listed, MapQuery};
 use std::collections::BTreeMap;
 use std::fmt;
@@ -20,12 +20,12 @@ pub fn number(bytes: &[u8]) -> u64 {
         .fold(0, |all, &byte| (all << 8) | u64::from(byte))
 }
 
-/// The fields behind version 1; none where the bytes aren't of that length or version.
+/// Returns the fields after version 1. Returns `None` if the bytes have another version or another length.
 fn fields(bytes: &[u8], count: usize) -> Option<Vec<u64>> {
     fields_of(1, bytes, count)
 }
 
-/// The fields behind this version.
+/// Returns the fields after this version. Returns `None` if the bytes have another version or another length.
 fn fields_of(version: u8, bytes: &[u8], count: usize) -> Option<Vec<u64>> {
     if bytes.len() != 1 + 8 * count || bytes[0] != version {
         return None;
@@ -55,7 +55,8 @@ impl DecodedRecord {
         bytes
     }
 
-    /// The records to which one change leads from here, but for the server that it names.
+    /// Returns whether one change may lead from this record to the next one. It doesn't judge which server the change
+    /// names.
     pub fn may_become(&self, next: &DecodedRecord) -> bool {
         let (from, to) = (self, next);
         let stays = from.owner == to.owner;
@@ -73,7 +74,8 @@ impl DecodedRecord {
         is_step && !from.is_admitted && !to.is_admitted && to.generation == from.generation + 1
     }
 
-    /// Whether the server executes what came directly, for 0, or from this server.
+    /// Returns whether the server executes requests that the server `from` forwarded. If `from` is 0, they came
+    /// directly.
     pub fn accepts(&self, server: u64, from: u64) -> bool {
         match self.phase {
             1 | 2 | 4 => self.owner == server,
@@ -84,7 +86,7 @@ impl DecodedRecord {
 }
 
 impl fmt::Display for DecodedRecord {
-    /// The phase, and the servers of which it tells.
+    /// Writes the phase, and the servers that the record names.
     fn fmt(&self, f: &mut fmt::Formatter<'_>) -> fmt::Result {
         let phases = [
             "vacant",
@@ -103,13 +105,14 @@ impl fmt::Display for DecodedRecord {
     }
 }
 
-/// The process that is elected, or that sent the latest command.
+/// Returns the only number of a value: the process that is elected or that sent the latest command, or the generation
+/// of an ack.
 pub fn process(bytes: &[u8]) -> Option<u64> {
     Some(fields(bytes, 1)?[0])
 }
 
-/// How far the restart of a server has come: 0 up, 1 asked, 2 approved, 3 stopped, 4 failed; whose command led to it,
-/// and of which process of the server it is said, 0 for none.
+/// Returns the progress of a server's restart: 0 up, 1 asked, 2 approved, 3 stopped, 4 failed. Then returns the process
+/// whose command led to it, and the process of the server that the state names. That one is 0 if the state names none.
 pub fn state(bytes: &[u8]) -> Option<(u64, u64, u64)> {
     let (fields, named) = match fields_of(2, bytes, 3) {
         Some(fields) => (fields.clone(), fields[2]),
@@ -118,13 +121,19 @@ pub fn state(bytes: &[u8]) -> Option<(u64, u64, u64)> {
     (fields[0] <= 4).then_some((fields[0], fields[1], named))
 }
 
-/// Up to which revision a server follows records, as its key tells.
+/// Returns the process of a server, as the server's key says.
+pub fn process_of_server(bytes: &[u8]) -> Option<u64> {
+    let rest = bytes.strip_prefix(&[1])?;
+    Some(number(rest.get(..8)?))
+}
+
+/// Returns the revision up to which a server follows the records, as the server's key says.
 pub fn followed(bytes: &[u8]) -> Option<u64> {
     let rest = bytes.strip_prefix(&[1])?;
     Some(number(rest.get(8..16)?))
 }
 
-/// How many batches a log has, how many its base stands for, and in how many parts that lies.
+/// Returns how many batches a log has, how many of them its base stands for, and how many parts the base has.
 pub fn head(bytes: &[u8]) -> Option<[u64; 3]> {
     let fields = fields(bytes, 3)?;
     Some([fields[0], fields[1], fields[2]])
@@ -140,13 +149,13 @@ pub struct Item {
     pub request: Vec<u8>,
 }
 
-/// What is left of bytes that are read from front to back.
+/// The rest of some bytes, which are read from front to back.
 struct Rest<'a> {
     bytes: &'a [u8],
 }
 
 impl<'a> Rest<'a> {
-    /// Behind the version.
+    /// Returns the bytes after version 1. Returns `None` if the version is another one.
     fn of(bytes: &'a [u8]) -> Option<Rest<'a>> {
         let bytes = bytes.strip_prefix(&[1])?;
         Some(Rest { bytes })
@@ -182,7 +191,7 @@ impl<'a> Rest<'a> {
     }
 }
 
-/// The server that executed a batch, and its requests.
+/// Returns the server that executed a batch, and the batch's requests.
 pub fn batch(bytes: &[u8]) -> Option<(u64, Vec<Item>)> {
     let mut rest = Rest::of(bytes)?;
     let server = rest.number(4)?;
@@ -190,8 +199,8 @@ pub fn batch(bytes: &[u8]) -> Option<(u64, Vec<Item>)> {
     rest.bytes.is_empty().then_some((server, items))
 }
 
-/// What a shard's first requests have made: its map, each client's last number and reply, and the number below which
-/// clients are forgotten.
+/// The state after a shard's first requests: its map, the last number and reply of each client, and the number below
+/// which clients are forgotten.
 #[derive(Clone, Debug, Default, PartialEq, Eq)]
 pub struct Made {
     pub map: MapModel,
@@ -199,7 +208,7 @@ pub struct Made {
     pub floor: u64,
 }
 
-/// What a base of one part holds.
+/// Reads the state from a base of one part.
 pub fn base(bytes: &[u8]) -> Option<Made> {
     let mut rest = Rest::of(bytes)?;
     let floor = rest.number(8)?;
@@ -222,10 +231,10 @@ pub enum DecodedValue {
     Count(i64),
 }
 
-/// A reply's kind and number, and of a read its text.
+/// The kind and the number of a reply. If it is the reply to a read, also its text.
 pub type Replied = (u8, u64, Vec<u8>);
 
-/// Texts and counts by key.
+/// Texts and counts, by their keys.
 #[derive(Clone, Debug, Default, PartialEq, Eq)]
 pub struct MapModel {
     held: BTreeMap<Vec<u8>, DecodedValue>,
@@ -236,7 +245,7 @@ fn bare(kind: u8) -> Replied {
 }
 
 impl MapModel {
-    /// The map that a base has as these bytes.
+    /// Reads the map from these bytes of a base.
     fn of(bytes: &[u8]) -> Option<MapModel> {
         let (mut rest, mut map) = (Rest { bytes }, MapModel::default());
         while !rest.bytes.is_empty() {
@@ -251,7 +260,7 @@ impl MapModel {
         Some(map)
     }
 
-    /// The reply to a request, which it carries out.
+    /// Carries out a request, and returns its reply.
     pub fn answer(&mut self, request: &[u8]) -> Replied {
         let length = request.get(1).map_or(0, |&it| usize::from(it));
         if length == 0 || request.len() < 2 + length {
@@ -267,7 +276,7 @@ impl MapModel {
         }
     }
 
-    /// What was asked of it, as it is now.
+    /// Returns the reply to this question about the map.
     pub fn listed(&self, asked: &MapQuery) -> Listed {
         match asked {
             MapQuery::Keys(keys) => {

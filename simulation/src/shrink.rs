@@ -1,15 +1,15 @@
-//! The fewest faults by which a schedule still breaks a law, by delta debugging.
+//! Finds the fewest faults with which a schedule still breaks a law, by delta debugging.
 use crate::fault::NumberedFault;
 use crate::faults::Kept;
 use crate::plan::Plan;
 use crate::world::run_by;
 use std::collections::BTreeSet;
 
-/// How many runs a schedule is shrunk by at most.
+/// How many runs may be spent to shrink one schedule.
 const MOST_RUNS: u32 = 2_000;
 
-/// Returns the faults of this plan without any of which, one at a time, the same law isn't broken any more; none if it
-/// breaks no law.
+/// Returns faults of this plan that are enough to break the same law. If one of them is left out, they aren't enough
+/// any more, unless there were too many runs. Returns `None` if the plan breaks no law.
 pub fn shrunk(plan: &Plan) -> Option<Vec<NumberedFault>> {
     let ran = run_by(plan);
     let law = ran.verdict.err()?.law;
@@ -26,7 +26,8 @@ pub fn shrunk(plan: &Plan) -> Option<Vec<NumberedFault>> {
     Some(fewest(ran.struck, is_broken_by))
 }
 
-/// Returns as few of these as still fail, of which all together do: none can be left out.
+/// Returns few of these items that still fail together. All of them together must fail. If one of the returned items is
+/// left out, the others don't fail any more.
 pub fn fewest<T: Clone>(mut all: Vec<T>, mut fails: impl FnMut(&[T]) -> bool) -> Vec<T> {
     let mut parts = 2;
     if fails(&[]) {

@@ -4,7 +4,7 @@ use std::sync::atomic::{AtomicBool, Ordering};
 use std::sync::Arc;
 use std::time::Duration;
 
-/// A host that shows nothing.
+/// A host of a control that shows nothing.
 pub struct SimulatedHost {
     pub is_stopping: Arc<AtomicBool>,
     pub pace: Duration,

@@ -11,7 +11,7 @@ use durkenzo_driver::Member;
 use std::fmt;
 use std::sync::Arc;
 
-/// The controls of other processes, as this one reaches them.
+/// The controls of other processes, as this process reaches them.
 pub struct SimulatedPeers {
     pub member: Arc<Member>,
     pub mails: Mails,
@@ -65,10 +65,10 @@ impl OtherControls for SimulatedPeers {
     }
 }
 
-/// How answers begin by which nobody has decided on a command, or may not have.
+/// The beginnings of answers that don't say that the command was decided on.
 const UNDECIDED: [&str; 4] = ["UNKNOWN", "PEERDOWN", "REFUSED NotLeader", "REFUSED St"];
 
-/// A server that is back is told whether it was decided on that.
+/// Tells a server that is back whether its return was decided.
 struct BackReply(Box<dyn FnOnce(bool) + Send>);
 
 impl ReplyTo for BackReply {

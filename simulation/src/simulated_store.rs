@@ -1,4 +1,4 @@
-//! The store that all processes share: an etcd of members that are in trouble by chance, and what is on its way to it.
+//! The store that all processes share: an etcd whose members fail by chance, and the transactions on their way to it.
 use crate::bug::Bug;
 use crate::chance::Chance;
 use crate::etcd::{
@@ -19,7 +19,8 @@ use std::time::Duration;
 /// The store that all processes share.
 pub type SharedStore = Arc<Mutex<SimulatedStore>>;
 
-/// Locks the store. It is never locked while somebody is told something.
+/// Locks the store. The lock must not be held while somebody is told something, because the listener may lock the store
+/// too.
 pub fn locked(shared: &SharedStore) -> MutexGuard<'_, SimulatedStore> {
     shared.lock().expect("no schedule goes on after a panic")
 }
@@ -30,30 +31,30 @@ pub struct SimulatedStore {
     pub time: Time,
     pub faults: Faults,
     pub timeline: Timeline,
-    /// Whether nothing is lost or late, as before a schedule begins.
+    /// If this holds, nothing is lost or late, as before a schedule begins.
     pub is_calm: bool,
-    /// How often something fails beside other schedules.
+    /// How often this schedule's faults strike, compared with other schedules.
     harshness: u64,
     pub(crate) keyspace: Keyspace,
     pub(crate) members: Members,
     pub(crate) routes: Vec<Route>,
-    /// Whose each of the ways is.
+    /// The column of each route's owner, in timelines.
     columns: Vec<Column>,
-    /// Until when it has no room.
+    /// The store has no room before this time.
     pub(crate) full_until: Duration,
-    /// All that were made and wrote something, with their revisions, and when they were.
+    /// All transactions that were made and wrote something, with their revisions, and the time of each revision.
     pub made: Vec<(u64, Transaction)>,
     times: Vec<(Duration, u64)>,
     pub flights: Vec<Flight>,
-    /// How many were sent, and how many of them were when the control of a column went on last, by its number.
+    /// How many transactions were sent. For each column, how many had been sent when its control last went on.
     pub(crate) sent: u64,
     pub(crate) given_up: BTreeMap<usize, u64>,
-    /// The first command that was made though its control had given it up.
+    /// The first command that was made although its control had given it up.
     pub made_late: Option<String>,
     pub(crate) watches: Watches,
-    /// How many leases there were.
+    /// How many leases were asked for.
     leases: i64,
-    /// How many transactions weren't made as a compare didn't hold.
+    /// How many transactions weren't made because a compare didn't hold.
     pub lost: u64,
 }
 
@@ -95,27 +96,27 @@ impl SimulatedStore {
         self.keyspace.revision()
     }
 
-    /// Returns what the key held at this revision.
+    /// Returns the value of the key at this revision.
     pub fn pair_at(&self, key: &[u8], revision: u64) -> Option<Pair> {
         self.keyspace.pair_at(key, revision)
     }
 
-    /// Returns whether the key holds something now.
+    /// Returns whether the key has a value now.
     pub fn has(&self, key: &[u8]) -> bool {
         self.keyspace.revision_of(key) > 0
     }
 
-    /// Returns what the key held at these revisions, and between them.
+    /// Returns the values that the key had from the first of these revisions to the second.
     pub fn between(&self, key: &[u8], since: u64, until: u64) -> Vec<Option<&[u8]>> {
         self.keyspace.between(key, since, until)
     }
 
-    /// Returns what keys held last that begin so and hold nothing any more.
+    /// Returns the last values of the keys with this prefix that have no value any more.
     pub fn gone_of(&self, prefix: &[u8]) -> Vec<Pair> {
         self.keyspace.gone_of(prefix)
     }
 
-    /// Returns all keys that hold something.
+    /// Returns all keys that have a value.
     pub fn keys(&self) -> impl Iterator<Item = &[u8]> {
         self.keyspace.keys_from(b"")
     }
@@ -139,19 +140,19 @@ impl SimulatedStore {
         }
     }
 
-    /// Reads the first keys from this one on that are such, so many at most.
+    /// Reads the keys from `from` on, as long as `is_in` holds for them, but at most `most` of them.
     pub fn range(&self, from: &[u8], is_in: impl Fn(&[u8]) -> bool, most: usize) -> Reading {
         let there = self.keyspace.keys_from(from).take_while(|it| is_in(it));
         self.reading(there.take(most))
     }
 
-    /// Returns the store's revision at that time.
+    /// Returns the revision that the store had at that time.
     pub fn revision_at(&self, time: Duration) -> u64 {
         let count = self.times.partition_point(|it| it.0 <= time);
         count.checked_sub(1).map_or(0, |it| self.times[it].1)
     }
 
-    /// Makes the transaction, if its compares hold and its leases go on.
+    /// Makes the transaction, if its compares hold and its leases haven't ended.
     pub fn make(&mut self, transaction: &Transaction) -> Became {
         self.keyspace.set_full(self.is_full());
         let before = self.revision();
@@ -176,8 +177,8 @@ impl SimulatedStore {
         Ok(Outcome::Made(Revision(reply.revision)))
     }
 
-    /// What the store's client makes of a refusal. Of one for want of room it looks whether a key that is compared and
-    /// written is as it was: if it isn't, the transaction may have been made.
+    /// Returns the error by which the store's client reports a refusal. If there was no room, the client looks at a key
+    /// that the transaction compares and writes. Unless that key is as it was, the transaction may have been made.
     fn write_error(&self, refusal: EtcdRefusal, transaction: &Transaction) -> WriteError {
         let why = format!("{refusal:?}");
         match refusal {
@@ -200,7 +201,7 @@ impl SimulatedStore {
         }
     }
 
-    /// The next revision was made, by this.
+    /// Notes that this transaction made the present revision.
     fn note_made(&mut self, transaction: Transaction) {
         let revision = self.revision();
         self.watches
@@ -211,12 +212,14 @@ impl SimulatedStore {
         self.made.push((revision, transaction));
     }
 
-    /// Draws whether something fails that does so once in so many times, and is to fail at this column.
+    /// Draws whether the fault strikes in this column, with a probability of `harshness` in `times`. While all is calm,
+    /// no fault strikes.
     pub(crate) fn fails(&mut self, fault: Fault, times: u64, column: Column) -> bool {
         !self.is_calm && self.faults.strikes(fault, self.harshness, times, column)
     }
 
-    /// Draws whether the store comes into trouble. Returns the chance by which it does.
+    /// Draws in the same way whether the fault strikes the store. If it strikes, returns the random numbers for its
+    /// details.
     pub(crate) fn struck(&mut self, fault: Fault, times: u64) -> Option<Chance> {
         if self.is_calm {
             return None;
@@ -225,7 +228,8 @@ impl SimulatedStore {
             .strike(fault, self.harshness, times, Column::Store)
     }
 
-    /// Returns a new way to members for this process: to all, beginning with any of them, or to one.
+    /// Adds a route to the members for this column, and returns its number. The route has all members, beginning with a
+    /// random one, or only one member.
     pub fn new_route(&mut self, column: Column) -> usize {
         self.columns.push(column);
         let first = self.chance.below(MEMBERS as u64) as usize;
@@ -239,12 +243,12 @@ impl SimulatedStore {
         self.routes.len() - 1
     }
 
-    /// Returns whose a way is.
+    /// Returns the column of a route's owner.
     pub fn column_of(&self, route: usize) -> Column {
         self.columns[route]
     }
 
-    /// Returns what a call by this way comes to, which passes over members that can't be reached.
+    /// Returns how a member of this route takes a call. The call skips members that can't be reached.
     pub(crate) fn reached(&mut self, route: usize) -> Reached {
         if self.is_calm {
             return Reached::Answers;
@@ -259,7 +263,8 @@ impl SimulatedStore {
         Reached::IsGone
     }
 
-    /// Returns whether any member answers by this way, of a call that may be made twice. The next call goes there.
+    /// Returns whether any member of this route answers a call that may be made twice. The next call goes to that
+    /// member.
     pub(crate) fn answers(&mut self, route: usize) -> bool {
         for _ in 0..self.routes[route].count() {
             match self.reached(route) {
@@ -270,12 +275,12 @@ impl SimulatedStore {
         false
     }
 
-    /// Returns whether it takes no puts and grants no leases.
+    /// Returns whether the store takes no puts and grants no leases.
     pub(crate) fn is_full(&self) -> bool {
         !self.is_calm && self.time.passed() < self.full_until
     }
 
-    /// Has so many other processes have begun, which have ended by now.
+    /// Makes the store count `others` more processes, as if they had begun and ended by now.
     pub fn begin_processes(&mut self, others: u64) {
         let last = self.pair_at(b"process", self.revision());
         let last = last.and_then(|it| String::from_utf8(it.value).ok());
@@ -287,7 +292,7 @@ impl SimulatedStore {
         self.is_calm = was_calm;
     }
 
-    /// Gives a lease of this length; none if there is no room.
+    /// Grants a lease of this length. Returns `None` if there is no room.
     pub fn grant(&mut self, length: Duration) -> Option<LeaseId> {
         self.leases += 1;
         self.keyspace.set_full(self.is_full());
@@ -296,13 +301,13 @@ impl SimulatedStore {
         granted.is_ok().then_some(lease)
     }
 
-    /// Keeps a lease for its length from now on; returns whether it goes on.
+    /// Keeps a lease for its whole length from now on. Returns whether the lease hadn't ended.
     pub fn keep(&mut self, lease: LeaseId) -> bool {
         let now = self.time.passed();
         self.keyspace.keep(lease, now)
     }
 
-    /// Ends a lease, and deletes its keys; returns whether it went on.
+    /// Ends a lease and deletes its keys. Returns whether the lease hadn't ended.
     pub fn revoke(&mut self, lease: LeaseId) -> bool {
         let keys = self.keyspace.keys_of(lease).cloned();
         let is_ended = self.keyspace.revoke(lease).is_ok();
@@ -316,7 +321,7 @@ impl SimulatedStore {
         is_ended
     }
 
-    /// Ends the leases that weren't kept for their length, by the leader's clock, if there is one who leads.
+    /// Ends the leases that weren't kept in time, by the leader's clock. Does nothing while there is no leader.
     pub fn lapse(&mut self) {
         let now = self.time.passed();
         if !self.is_calm && !self.members.serve(now) {

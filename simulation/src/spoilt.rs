@@ -1,4 +1,4 @@
-//! What planted bugs make of a process's transactions and readings: as they would be if the driver had the bug.
+//! Plants bugs in the transactions and readings of a process. It changes them as the driver would if it had the bug.
 use crate::bug::Bug;
 use crate::flight::Became;
 use crate::key::DecodedKey;
@@ -6,24 +6,24 @@ use crate::reading;
 use crate::simulated_store::SimulatedStore;
 use durkenzo_store::{Outcome, Pair, Reading, Revision, Seen, Transaction, WriteError};
 
-/// Whether it is of a shard's server: it compares the head of a log.
+/// Returns whether the transaction is one of a shard's server. These compare the head of a log.
 fn is_of_server(transaction: &Transaction) -> bool {
     let mut compares = transaction.compares.iter();
     compares.any(|it| it.key.starts_with(b"head/"))
 }
 
-/// Whether it is a control's command.
+/// Returns whether the transaction is a control's command.
 fn is_command(transaction: &Transaction) -> bool {
     transaction.puts.iter().any(|it| it.key == b"commands")
 }
 
-/// Whether by it a server acks.
+/// Returns whether a server acks by this transaction.
 fn is_telling(transaction: &Transaction) -> bool {
     let mut puts = transaction.puts.iter();
     puts.any(|it| it.key.starts_with(b"ack/"))
 }
 
-/// Has it no longer compare the keys that begin so.
+/// Drops the compares of keys with this prefix.
 fn uncompared(mut transaction: Transaction, prefix: &[u8]) -> Transaction {
     transaction
         .compares
@@ -32,7 +32,7 @@ fn uncompared(mut transaction: Transaction, prefix: &[u8]) -> Transaction {
 }
 
 impl SimulatedStore {
-    /// Returns what is sent in place of this transaction.
+    /// Returns the transaction that is sent instead of this one.
     pub fn spoilt(&mut self, transaction: Transaction, route: usize) -> Transaction {
         let Some(bug) = self.bug else {
             return transaction;
@@ -56,7 +56,7 @@ impl SimulatedStore {
         }
     }
 
-    /// Deletes the batches that this part of a base is to stand for.
+    /// Deletes the batches that this part of a base will stand for.
     fn delete_early(&mut self, part: &Transaction, route: usize) {
         let Some(DecodedKey::Part(shard, number, _)) =
             part.puts.first().and_then(|it| DecodedKey::of(&it.key))
@@ -68,13 +68,14 @@ impl SimulatedStore {
         self.send_for_nobody(deleted, route);
     }
 
-    /// Returns why a control is told that its transaction isn't made, if it is told so.
+    /// Returns the error that a control is told instead of the outcome of its transaction, if the bug does that.
     pub fn refused(&self, transaction: &Transaction) -> Option<WriteError> {
         let is_so = self.bug == Some(Bug::NoReturn) && has_be_up(transaction);
         is_so.then(|| WriteError::Unavailable("by a bug".to_owned()))
     }
 
-    /// Returns the values of servers' keys that are gone, if a leader takes these for there.
+    /// Returns the last values of the servers' keys that are gone, if the bug makes a leader believe that they are
+    /// there.
     pub fn gone(&self, prefix: &[u8]) -> Vec<Pair> {
         match self.bug {
             Some(Bug::BlindLeader) if prefix == b"server/" => self.gone_of(prefix),
@@ -82,7 +83,8 @@ impl SimulatedStore {
         }
     }
 
-    /// Returns changes of the leader's key, or of acks, as a process hears of them.
+    /// Returns the changes that a process hears of. The bug may change acks, or leave out that the leader's key is
+    /// gone.
     pub fn misheard(&self, seen: Seen) -> Seen {
         match seen {
             Seen::Changes(revision, mut changes) if self.bug == Some(Bug::EarlyAck) => {
@@ -99,7 +101,7 @@ impl SimulatedStore {
         }
     }
 
-    /// Returns what is told of a transaction before it is made, if that is done.
+    /// Returns the outcome that is told before the transaction is made, if the bug does that.
     pub fn untrue(&self, transaction: &Transaction) -> Option<Became> {
         let is_told = match self.bug? {
             Bug::EarlyReply => is_of_server(transaction) && transaction.writes(),
@@ -110,7 +112,7 @@ impl SimulatedStore {
         is_told.then_some(Ok(Outcome::Made(Revision(self.revision() + writes))))
     }
 
-    /// Returns what is told in place of what became of a transaction.
+    /// Returns the outcome that is told instead of the transaction's own.
     pub fn told(&self, transaction: &Transaction, became: Became) -> Became {
         let made = Ok(Outcome::Made(Revision(self.revision() + 1)));
         match (self.bug, &became) {
@@ -127,7 +129,7 @@ impl SimulatedStore {
         }
     }
 
-    /// Returns what is read in place of this.
+    /// Returns the reading that a process gets instead of this one.
     pub fn misread(&mut self, keys: &[&[u8]], mut reading: Reading) -> Reading {
         match self.bug {
             Some(Bug::TornReading) => {
@@ -158,14 +160,14 @@ impl SimulatedStore {
     }
 }
 
-/// Has it delete no intents.
+/// Drops the deletions of intents.
 fn kept(mut transaction: Transaction) -> Transaction {
     let is_intent = |it: &[u8]| DecodedKey::of(it).is_some_and(DecodedKey::is_intent);
     transaction.deletes.retain(|it| !is_intent(it));
     transaction
 }
 
-/// Whether by this a server is up again.
+/// Returns whether this transaction marks a server as up again.
 fn has_be_up(transaction: &Transaction) -> bool {
     let mut puts = transaction.puts.iter();
     puts.any(|it| {
@@ -174,7 +176,7 @@ fn has_be_up(transaction: &Transaction) -> bool {
     })
 }
 
-/// Has a head have a batch less behind its base.
+/// Takes one batch from a head, if it has one after its base.
 fn one_batch_less(head: &mut [u8]) {
     if let Some([batches, base, _]) = reading::head(head) {
         if batches > base {
@@ -183,7 +185,7 @@ fn one_batch_less(head: &mut [u8]) {
     }
 }
 
-/// Has a base be one of a batch more, where its part is written and where it is named.
+/// Makes a base claim one batch more than it holds, both in the keys of its parts and in the head that names it.
 fn short(mut transaction: Transaction) -> Transaction {
     let names_base = transaction.puts.len() == 1;
     for put in &mut transaction.puts {

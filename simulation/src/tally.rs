@@ -1,10 +1,10 @@
 use crate::claim::{Claim, Said};
 use crate::fault::Fault;
-use crate::faults::FaultCounts;
+use crate::fault_counts::FaultCounts;
 use crate::key::{DecodedKey, Written};
 use std::fmt;
 
-/// How often what happened, so that runs in which nothing does are seen.
+/// How often each event happened. It shows runs in which nothing happens.
 #[derive(Clone, Copy, Default, Debug, PartialEq, Eq)]
 pub struct Tally {
     pub events: u64,
@@ -23,17 +23,29 @@ pub struct Tally {
     pub bases: u64,
     pub deleted: u64,
     pub by_lease: u64,
-    /// Turns of controls that ship, what operators asked, how much of that was answered, and how much was done.
+    /// The turns of the controls that ship, how many commands operators gave, how many were answered, and how many were
+    /// done.
     pub turns: u64,
     pub operated: u64,
     pub told: u64,
     pub done: u64,
-    /// Connections that were made between processes, and that broke.
+    /// How many connections between processes were made, and how many broke.
     pub reached: u64,
     pub broken: u64,
-    /// How often a permit came to another process.
+    /// How often a permit moved to another process.
     pub permits: u64,
-    /// The time that passed, in milliseconds.
+    /// The calls of a fleet's clients, and their outcomes.
+    pub calls: u64,
+    pub answered: u64,
+    pub hopped: u64,
+    pub unsure: u64,
+    pub not_made: u64,
+    /// How many bodies moved to another process, and how many were lost with the processes that had them.
+    pub handed: u64,
+    pub bodies_lost: u64,
+    /// How many frames arrived.
+    pub frames: u64,
+    /// How much time passed, in milliseconds.
     pub passed_time: u64,
     /// How many faults of each kind struck.
     pub faults: FaultCounts,
@@ -65,12 +77,19 @@ impl Tally {
         self.reached += more.reached;
         self.broken += more.broken;
         self.permits += more.permits;
+        self.calls += more.calls;
+        self.answered += more.answered;
+        self.hopped += more.hopped;
+        self.unsure += more.unsure;
+        self.not_made += more.not_made;
+        self.handed += more.handed;
+        self.bodies_lost += more.bodies_lost;
+        self.frames += more.frames;
         self.passed_time += more.passed_time;
-        let faults = self.faults.iter_mut().zip(more.faults);
-        faults.for_each(|(all, more)| *all += more);
+        self.faults.add(&more.faults);
     }
 
-    /// Counts what a transaction wrote.
+    /// Counts the writes of a transaction.
     pub fn note_made(&mut self, written: &Written) {
         let puts = |is_such: fn(&DecodedKey) -> bool| written.puts.iter().any(|it| is_such(&it.0));
         let is_behind =
@@ -85,7 +104,7 @@ impl Tally {
         self.bases += u64::from(written.names_base());
     }
 
-    /// Counts what was told.
+    /// Counts a claim.
     pub fn note_told(&mut self, claim: &Claim) {
         *match claim.said {
             Said::Made { .. } => &mut self.replied,
@@ -97,7 +116,7 @@ impl Tally {
     }
 }
 
-/// All counts that aren't 0, those of faults by their names.
+/// Writes the counts that aren't 0. Counts of faults are written with the faults' names.
 impl fmt::Display for Tally {
     fn fmt(&self, f: &mut fmt::Formatter<'_>) -> fmt::Result {
         let counts = [
@@ -124,10 +143,18 @@ impl fmt::Display for Tally {
             ("reached", self.reached),
             ("broken", self.broken),
             ("permits", self.permits),
+            ("calls", self.calls),
+            ("answered", self.answered),
+            ("hopped", self.hopped),
+            ("unsure", self.unsure),
+            ("not made", self.not_made),
+            ("handed", self.handed),
+            ("bodies lost", self.bodies_lost),
+            ("frames", self.frames),
         ];
         let faults = Fault::ALL
             .iter()
-            .map(|it| (it.name(), self.faults[*it as usize]));
+            .map(|it| (it.name(), self.faults.count(*it)));
         let counts = counts.into_iter().chain(faults).filter(|it| it.1 > 0);
         let counts: Vec<String> = counts.map(|it| format!("{} {}", it.1, it.0)).collect();
         f.write_str(&counts.join(", "))

@@ -2,7 +2,7 @@ use std::sync::atomic::{AtomicU64, Ordering};
 use std::sync::Arc;
 use std::time::{Duration, Instant};
 
-/// The clock of a schedule, which all its processes and its store go by.
+/// The clock of a schedule. All its processes and its store use it.
 #[derive(Clone)]
 pub struct Time {
     beginning: Instant,
@@ -23,7 +23,7 @@ impl Time {
         Duration::from_millis(self.milliseconds.load(Ordering::Relaxed))
     }
 
-    /// Returns this moment. Only the time between two of them is of the schedule.
+    /// Returns this moment. The seed decides only the time between two moments.
     pub fn now(&self) -> Instant {
         self.moment(self.passed())
     }

@@ -1,18 +1,18 @@
-//! What happened in a schedule, as lines that are read from top to bottom.
+//! The events of a schedule, as lines from top to bottom.
 use crate::time::Time;
 use std::fmt::Write;
 use std::sync::{Arc, Mutex};
 
-/// Where something happened.
+/// The place of an event.
 #[derive(Clone, Copy, Debug, PartialEq, Eq)]
 pub enum Column {
     Store,
-    /// A process, by its place.
+    /// The process at this place.
     Process(usize),
 }
 
 impl Column {
-    /// Returns its number, from the left.
+    /// Returns the column's number, counted from the left.
     pub fn number(self) -> usize {
         match self {
             Column::Store => 0,
@@ -21,7 +21,7 @@ impl Column {
     }
 }
 
-/// What happened, where and when.
+/// An event, with its column and its time.
 #[derive(Clone, Debug)]
 pub struct Event {
     pub milliseconds: u128,
@@ -29,19 +29,19 @@ pub struct Event {
     pub text: String,
 }
 
-/// The events of one schedule, for all who note them; none are kept unless somebody wants to see them.
+/// The events of one schedule, shared by all that note them. If nobody wants to see them, they aren't kept.
 #[derive(Clone)]
 pub struct Timeline {
     time: Time,
     events: Option<Arc<Mutex<Vec<Event>>>>,
 }
 
-/// How wide a column is, and that of times.
+/// The widths of a column, and of the column of times.
 const WIDTH: usize = 24;
 const TIMES: usize = 7;
 
 impl Timeline {
-    /// Returns a timeline by this clock, which keeps events if they are to be shown.
+    /// Returns a timeline with this clock. If `is_shown` holds, it keeps its events.
     pub fn new(time: Time, is_shown: bool) -> Timeline {
         Timeline {
             time,
@@ -49,7 +49,7 @@ impl Timeline {
         }
     }
 
-    /// Notes that something happens now.
+    /// Notes an event that happens now.
     pub fn note(&self, column: Column, text: impl FnOnce() -> String) {
         if let Some(events) = &self.events {
             let event = Event {
@@ -62,7 +62,7 @@ impl Timeline {
         }
     }
 
-    /// Returns the events in their order; none if none were kept.
+    /// Returns the events in their order. If they aren't kept, there are none.
     pub fn events(&self) -> Vec<Event> {
         let events = self.events.as_ref();
         events.map_or_else(Vec::new, |it| {
@@ -72,8 +72,8 @@ impl Timeline {
         })
     }
 
-    /// Returns the events, a line each: the time in virtual milliseconds, then what happened, in the column of where it
-    /// happened. These are the names of the columns of processes.
+    /// Draws the events, one in a line: the time in virtual milliseconds, and then the event in its column. `names` are
+    /// the names of the processes' columns.
     pub fn drawn(&self, names: &[String]) -> String {
         let heads = ["store".to_owned()];
         let heads = heads.iter().chain(names).map(|it| format!("{it:WIDTH$}"));

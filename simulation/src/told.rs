@@ -1,4 +1,4 @@
-//! How timelines tell of transactions and of what became of them.
+//! Writes transactions, outcomes and readings for timelines.
 use crate::flight::Became;
 use crate::key::DecodedKey;
 use crate::reading::{self, DecodedRecord};
@@ -14,7 +14,7 @@ pub fn key(key: &[u8]) -> String {
     parts.collect::<Vec<_>>().join("/")
 }
 
-/// Returns what a transaction writes and deletes, or that it only compares.
+/// Returns the keys that a transaction writes and deletes. If there are none, returns the keys that it compares.
 pub fn summary(transaction: &Transaction) -> String {
     let puts = transaction
         .puts
@@ -31,7 +31,7 @@ pub fn summary(transaction: &Transaction) -> String {
     }
 }
 
-/// Returns a key that is written, with what it comes to hold if that is a record or a state.
+/// Returns a key that is written. If it is the key of a record or a state, also returns its new value.
 fn written(bytes: &[u8], value: &[u8]) -> String {
     let held = match DecodedKey::of(bytes) {
         Some(DecodedKey::Record(_)) => DecodedRecord::of(value).map(|it| it.to_string()),
@@ -44,12 +44,12 @@ fn written(bytes: &[u8], value: &[u8]) -> String {
     }
 }
 
-/// The name of a server's state.
+/// Returns the name of a server's state.
 fn state(number: u64) -> &'static str {
     ["up", "asked", "approved", "stopped", "failed"][number as usize]
 }
 
-/// Returns what became of a transaction.
+/// Returns the outcome of a transaction.
 pub fn became(became: &Became) -> String {
     match became {
         Ok(Outcome::Made(revision)) => format!("made {revision}"),
@@ -58,7 +58,7 @@ pub fn became(became: &Became) -> String {
     }
 }
 
-/// Returns what a watch tells.
+/// Returns the revision that a watch tells, and the keys that have changed.
 pub fn seen(seen: &Seen) -> String {
     match seen {
         Seen::All(reading) => format!("sees all at {}", reading.revision),

@@ -1,17 +1,17 @@
-//! The troubles of the store's members, which come by chance and go by themselves.
+//! The troubles of the store's members. They come by chance, and end by themselves.
 use crate::chance::Chance;
 use crate::etcd::{Trouble, MEMBERS};
 use crate::fault::Fault;
 use crate::simulated_store::SimulatedStore;
 use std::time::Duration;
 
-/// For how many milliseconds a member is in trouble, nobody leads, and there is no room, at most.
+/// The longest times, in milliseconds, for which a member is in trouble, no member leads, and there is no room.
 const TROUBLE: u64 = 900;
 const ELECTION: u64 = 400;
 const FULLNESS: u64 = 700;
-/// How many revisions a compaction leaves at most.
+/// A compaction keeps fewer revisions than this.
 const LEFT: u64 = 20;
-/// A fault comes once in so many times.
+/// A fault strikes `harshness` times in this many draws, or half as often if it is a full store.
 const SELDOM: u64 = 12;
 
 fn milliseconds(chance: &mut Chance, most: u64) -> Duration {
@@ -19,7 +19,7 @@ fn milliseconds(chance: &mut Chance, most: u64) -> Duration {
 }
 
 impl SimulatedStore {
-    /// Draws which troubles the store comes into now.
+    /// Draws the faults that strike the store now.
     pub fn come_into_trouble(&mut self) {
         let of_members = [
             (Fault::MemberHangs, Trouble::Hangs),
@@ -39,7 +39,7 @@ impl SimulatedStore {
         }
         if let Some(mut chance) = self.struck(Fault::Compaction, SELDOM) {
             let revision = self.revision().saturating_sub(chance.below(LEFT));
-            // What was let go already stays so.
+            // If an earlier compaction went further, this one fails and changes nothing.
             let _ = self.keyspace.compact(revision);
         }
     }
@@ -54,7 +54,7 @@ impl SimulatedStore {
         }
     }
 
-    /// Another member leads soon, and has each lease go on for its length from then on at least.
+    /// Makes another member lead soon. From then on each lease lasts for at least its whole length.
     fn change_leader(&mut self, chance: &mut Chance) {
         let now = self.time.passed();
         let since = now + milliseconds(chance, ELECTION);

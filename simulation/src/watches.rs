@@ -1,4 +1,4 @@
-//! The watches of a store, each at a member, as the store's client follows them.
+//! The watches of a store. Each is at a member, and is followed as the store's client would.
 use crate::etcd::{Heard, RangeQuery, Reached};
 use crate::fault::Fault;
 use crate::simulated_store::SimulatedStore;
@@ -6,29 +6,29 @@ use crate::told;
 use durkenzo_store::{KeyChange, Reading, Revision, Seen, Watcher};
 use std::collections::{BTreeMap, VecDeque};
 
-/// How many revisions are told at once at most.
+/// How many revisions may be told at once.
 const MOST_AT_ONCE: u64 = 3;
 
-/// What a watch tells next.
+/// The next thing that a watch tells.
 enum Next {
-    /// What lay there when it began.
+    /// The values at the watch's beginning.
     First(Reading),
-    /// What lies there now, as changes may have been missed.
+    /// The values as they are now, because changes may have been missed.
     Anew,
     Changes,
 }
 
-/// A watch, and what it hasn't told yet.
+/// A watch, and the changes that it hasn't told yet.
 struct Followed {
     prefix: Vec<u8>,
-    /// The way by which it asks.
+    /// The number of its route to the members.
     route: usize,
-    /// None while it is told something.
+    /// It is `None` while the watch tells something.
     watcher: Option<Watcher>,
-    /// Up to which revision it has told all.
+    /// The revision up to which the watch has told everything.
     moment: u64,
     next: Next,
-    /// The changes after what is told next, by their revisions.
+    /// The changes that come after the next thing to tell, by their revisions.
     untold: VecDeque<(u64, Vec<KeyChange>)>,
 }
 
@@ -48,7 +48,7 @@ impl Followed {
         }
     }
 
-    /// Whether it has something to tell of what its member has told up to this revision.
+    /// Returns whether the watch has something to tell. `told` is the revision up to which its member tells changes.
     fn has_more(&self, told: Option<u64>) -> bool {
         match self.next {
             Next::First(_) | Next::Anew => true,
@@ -59,7 +59,7 @@ impl Followed {
         }
     }
 
-    /// Returns the next changes up to this revision, of so many revisions at most.
+    /// Returns the next changes up to the revision `told`, from at most `most` revisions.
     fn changes(&mut self, told: u64, most: u64) -> Option<Seen> {
         let mut all = Vec::new();
         for _ in 0..most {
@@ -75,7 +75,7 @@ impl Followed {
     }
 }
 
-/// The first key after all that begin so.
+/// Returns the first key after all keys with this prefix.
 fn end_of(prefix: &[u8]) -> Vec<u8> {
     match prefix.iter().rposition(|it| *it < u8::MAX) {
         Some(at) => [&prefix[..at], &[prefix[at] + 1]].concat(),
@@ -87,18 +87,18 @@ fn end_of(prefix: &[u8]) -> Vec<u8> {
 #[derive(Default)]
 pub struct Watches {
     followed: BTreeMap<u64, Followed>,
-    /// How many there were.
+    /// How many watches there were.
     count: u64,
 }
 
 impl Watches {
-    /// Has each watch tell the changes of a revision later.
+    /// Makes each watch tell the changes of this revision later.
     pub fn note(&mut self, revision: u64, changes: &[KeyChange]) {
         let followed = self.followed.values_mut();
         followed.for_each(|it| it.note(revision, changes));
     }
 
-    /// Returns how many there are.
+    /// Returns how many watches there are.
     pub fn len(&self) -> usize {
         self.followed.len()
     }
@@ -126,7 +126,8 @@ impl SimulatedStore {
         self.watches.followed.remove(&number);
     }
 
-    /// Up to which revision the member of this way tells watches; none if it tells nothing.
+    /// Returns the revision up to which the current member of this route tells changes. Returns `None` if it tells
+    /// nothing.
     fn told_by(&self, route: usize) -> Option<u64> {
         let (now, revision) = (self.time.passed(), self.revision());
         match self.is_calm {
@@ -137,7 +138,7 @@ impl SimulatedStore {
         }
     }
 
-    /// Returns a watch that has something to tell, with that.
+    /// Returns a random watch that has something to tell, and the thing that it tells.
     pub fn hear(&mut self) -> Option<(u64, Watcher, Seen)> {
         self.leave_a_member();
         let has_more = |it: &(&u64, &Followed)| it.1.has_more(self.told_by(it.1.route));
@@ -155,7 +156,7 @@ impl SimulatedStore {
         Some((number, watcher, seen))
     }
 
-    /// Some watch whose member is silent leaves it for the next one by its way.
+    /// Makes a watch whose member is silent leave it for the next member of its route, by chance.
     fn leave_a_member(&mut self) {
         if self.is_calm {
             return;
@@ -170,8 +171,8 @@ impl SimulatedStore {
         }
     }
 
-    /// A watch is asked for again at the next member by its way: from its moment on, so that it hears whether anything
-    /// after that was let go.
+    /// Makes a watch begin again at the next member of its route, from its moment on. So it hears whether changes after
+    /// that moment were compacted.
     fn ask_anew(&mut self, number: u64) {
         let Some(followed) = self.watches.followed.get_mut(&number) else {
             return;
@@ -197,7 +198,7 @@ impl SimulatedStore {
         }
     }
 
-    /// What a watch tells next, if it can.
+    /// Returns the next thing that the watch tells, if it can tell anything.
     fn next_of(&mut self, number: u64) -> Option<(Watcher, Seen)> {
         let followed = self.watches.followed.get(&number)?;
         let (route, prefix) = (followed.route, followed.prefix.clone());
@@ -212,7 +213,7 @@ impl SimulatedStore {
         }
         let all = is_anew.then(|| self.range(&prefix, |it| it.starts_with(&prefix), usize::MAX));
         let followed = self.watches.followed.get_mut(&number)?;
-        // One that is told something now has no more to tell until it was.
+        // If the watch is telling something now, it must finish that first.
         let watcher = followed.watcher.take()?;
         let seen = match (std::mem::replace(&mut followed.next, Next::Changes), all) {
             (Next::First(first), _) => Some(Seen::All(first)),
@@ -232,7 +233,7 @@ impl SimulatedStore {
         }
     }
 
-    /// Has the watch go on, which has told something.
+    /// Makes a watch go on after it has told something.
     pub fn heard(&mut self, number: u64, watcher: Watcher) {
         if let Some(followed) = self.watches.followed.get_mut(&number) {
             followed.watcher = Some(watcher);

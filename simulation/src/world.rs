@@ -1,28 +1,28 @@
-//! Three servers, one of which may run twice, clients and a store, and what happens to them by chance.
+//! The world of a schedule: three servers, clients and a store, and random events. One of the servers may run twice.
 mod controls;
+mod fleets;
 mod members;
 mod network;
-mod permits;
 mod rest;
+mod shape;
 
 use crate::beginning::Beginning;
 use crate::bug::Bug;
 use crate::chance::Chance;
 use crate::client::{Asking, Claims, Client};
 use crate::command::{command, settings};
-use crate::control_shape::ControlShape;
 use crate::etcd_client::run_clients_by;
 use crate::fault::Fault;
-use crate::faults::{counts_of, Faults};
+use crate::fault_counts::FaultCounts;
+use crate::faults::Faults;
+use crate::folder::run_folder_by;
 use crate::key::Written;
 use crate::law::{check, Broken};
 use crate::ledger::SharedLedger;
 use crate::links::{LinkShape, Parcels};
-use crate::machine_clock::{Clocks, MachineClock};
 use crate::mail::{broken, visiting, Mails, Message, Sender, StepAnswer};
 use crate::network::SimulatedNetwork;
 use crate::part::Part;
-use crate::permit_holder::Handing;
 use crate::picture::{Picture, GONE};
 use crate::plan::{Plan, Ran};
 use crate::process::{Process, LEASE};
@@ -31,127 +31,69 @@ use crate::tally::Tally;
 use crate::time::Time;
 use crate::timeline::{Column, Timeline};
 use durkenzo_driver::{
-    Begin, ControlCommand, DurableControl, Key, MapRequest, NotDone, Range, Reads, Refused, Tuning,
+    Begin, ControlCommand, DurableControl, Key, MapRequest, NotDone, Range, Reads, Refused,
     WorkStep,
 };
+use fleets::FleetOfWorld;
+use shape::Shape;
 use std::sync::atomic::{AtomicBool, Ordering};
 use std::sync::{Arc, Mutex, MutexGuard, Weak};
 use std::time::Duration;
 
 pub const SERVERS: u16 = 3;
-/// One more than there are servers: one that is believed dead goes on.
+/// There is one process more than servers, because a process that is believed dead may still run.
 const PROCESSES: usize = 4;
-const SHARDS: u16 = 2;
-/// How many there are if processes have the control that ships.
-const CONTROLLED_SHARDS: u16 = 4;
-/// How many shards a server has room for if the schedule commands.
+/// How many shards a server has room for, if the schedule itself commands.
 const ROOM: u16 = 9;
 const CLIENTS: u64 = 2;
 const EVENTS: u64 = 500;
-/// How many there are if processes have the control that ships.
+/// How many events there are if processes have the control that ships.
 const CONTROLLED_EVENTS: u64 = 2_500;
-/// How many there are at least if processes have the links that ship.
+/// How many events there are at least if processes have the links that ship.
 const LINKED_EVENTS: u64 = 1_500;
-/// How many batches a log has at most before a base stands for them.
-const MOST_BATCHES: u64 = 3;
-/// How long it takes at most until all is over once nothing fails: so many times so many milliseconds, in each of which
-/// as many of all things happen.
+/// How many periods may pass until everything is over once nothing fails, and how many milliseconds a period has. In a
+/// period, each kind of message moves as often as the period has milliseconds.
 const SETTLING: u64 = 60;
 const PERIOD: u64 = 50;
-/// So many times if processes have the links that ship: what a machine got that is gone is lost only then.
+/// How many periods there are if processes have the links that ship, or belong to a fleet. They need more, because the
+/// requests that a machine had are lost only when others notice that the machine is gone.
 const LINKED_SETTLING: u64 = 500;
-/// By this the numbers of chance of clocks differ from those of all else.
-const OF_CLOCKS: u64 = 0xc10c;
-/// How long work waits for a shard that nobody executes.
+/// How long work waits for a shard that no server executes.
 const WAIT: Duration = Duration::from_millis(300);
 
-/// What may happen next.
+/// An event that may happen next.
 type Happening = fn(&mut World);
-
-/// What happens, and how often beside the others.
-const HAPPENINGS: [(Happening, u64); 15] = [
-    (World::ask, 16),
-    (World::fly, 30),
-    (World::read, 14),
-    (World::tell_read, 7),
-    (World::hear, 20),
-    (World::deliver, 6),
-    (World::answer, 4),
-    (World::tick, 4),
-    (World::turn_members, 6),
-    (World::lapse, 2),
-    (World::trouble_store, 4),
-    (World::crash, 1),
-    (World::start_one, 3),
-    (World::give_up, 1),
-    (World::pass_time, 7),
-];
-
-/// What happens beside that if the schedule commands.
-const COMMANDED: [(Happening, u64); 2] = [(World::command, 11), (World::elect, 1)];
-
-/// What happens beside that if processes have the control that ships.
-const CONTROLLED: [(Happening, u64); 8] = [
-    (World::take_turn, 100),
-    (World::operate, 5),
-    (World::leave_control, 1),
-    (World::deliver_command, 6),
-    (World::answer_command, 6),
-    (World::pause, 1),
-    (World::stop, 1),
-    (World::renew_stopped, 2),
-];
-
-/// What happens beside that if processes have the links that ship.
-const LINKED: [(Happening, u64); 4] = [
-    (World::move_bytes, 80),
-    (World::reach, 16),
-    (World::tick_links, 10),
-    (World::harm_network, 1),
-];
-
-/// What happens beside that if a service executes by permits.
-const PERMITTED: [(Happening, u64); 2] = [(World::serve, 30), (World::hand_over, 6)];
 
 pub struct World {
     chance: Chance,
-    /// What happens in this schedule, and how often.
-    happenings: Vec<(Happening, u64)>,
-    shards: u16,
-    /// How the control is that processes have; none if the schedule commands.
-    control: Option<ControlShape>,
+    shape: Shape,
     ledger: SharedLedger,
     bug: Option<Bug>,
     time: Time,
-    /// How the machines' clocks are, and that of each process by its place.
-    clocks: Clocks,
-    machines: Vec<MachineClock>,
-    /// Whether a service executes by permits.
-    has_permits: bool,
-    /// What owners have let go, on its way to next owners.
-    handings: Vec<Handing>,
-    /// The process that held each shard last, if a service executes by permits.
-    holders: Vec<Option<u64>>,
+    /// The fleet of the processes, in schedules that have one.
+    fleet: Option<FleetOfWorld>,
     faults: Faults,
     timeline: Timeline,
     store: SharedStore,
     mails: Mails,
-    /// What is between processes that have the links that ship.
+    /// The network between the processes, if they have the links that ship.
     network: Option<SimulatedNetwork>,
     parcels: Parcels,
     told: Claims,
-    tuning: Tuning,
     processes: Vec<Option<Process>>,
-    /// Those whose servers aren't there yet, by their places.
+    /// The processes whose servers haven't joined yet, by their places.
     beginnings: Vec<Option<Beginning>>,
     /// How many processes have been started.
     lives: u64,
+    /// How many watches the clients of fleets have.
+    client_watches: usize,
     clients: Vec<Client>,
-    /// What was asked of shards, and whether somebody waits for it: nothing once it is over.
+    /// The work that shards were asked for, and whether somebody waits for it. The last part is gone once the work is
+    /// over.
     asked: Vec<(u16, Begin, Weak<AtomicBool>)>,
-    /// What each text is of its own by.
+    /// The number of the last text. It makes each text unique.
     texts: u32,
-    /// What a control found wrong.
+    /// The first broken law that was found before all transactions and claims are checked.
     fault: Option<Broken>,
     tally: Tally,
 }
@@ -162,11 +104,12 @@ pub fn run(seed: u64, bug: Option<Bug>) -> (Tally, Result<(), Broken>) {
     (ran.tally, ran.verdict)
 }
 
-/// Runs one schedule by a plan, checks it, and tells what struck and happened.
+/// Runs one schedule by a plan and checks it. Returns its results.
 pub fn run_by(plan: &Plan) -> Ran {
     match plan.part {
-        Part::Processes => run_processes_by(plan),
+        Part::Processes | Part::Fleet => run_processes_by(plan),
         Part::EtcdClient => run_clients_by(plan),
+        Part::Folder => run_folder_by(plan),
     }
 }
 
@@ -194,7 +137,7 @@ fn run_processes_by(plan: &Plan) -> Ran {
     }
 }
 
-/// The names of the processes by their places.
+/// Returns the names of the processes, by their places.
 fn names() -> Vec<String> {
     let name = |place: usize| match place < usize::from(SERVERS) {
         true => format!("server {}", server_of(place)),
@@ -203,7 +146,7 @@ fn names() -> Vec<String> {
     (0..PROCESSES).map(name).collect()
 }
 
-/// Runs one schedule, and returns all that was made and told.
+/// Runs one schedule. Returns all its transactions, claims and operators' commands.
 pub fn transcript(seed: u64) -> String {
     let mut world = World::new(&Plan::new(seed, None));
     world.pass();
@@ -214,50 +157,22 @@ pub fn transcript(seed: u64) -> String {
 
 impl World {
     fn new(plan: &Plan) -> World {
-        let (mut chance, bug) = (Chance::new(plan.seed), plan.bug);
-        let time = Time::new();
+        let (mut chance, time) = (Chance::new(plan.seed), Time::new());
         let timeline = Timeline::new(time.clone(), plan.is_shown);
         let faults = Faults::new(plan.seed, plan.kept.clone(), timeline.clone());
-        let (of_store, noted) = (
-            Chance::new(chance.drawn()),
-            (faults.clone(), timeline.clone()),
-        );
-        let store = SimulatedStore::new(of_store, bug, time.clone(), noted);
-        let is_controlled = match bug {
-            Some(bug) => bug.is_of_control() || bug.is_of_permits(),
-            None => chance.is_true(1, 4),
-        };
-        let (shards, more): (_, &[(Happening, u64)]) = match is_controlled {
-            true => (CONTROLLED_SHARDS, &CONTROLLED),
-            false => (SHARDS, &COMMANDED),
-        };
-        let of_links = chance_of_links(plan.seed, bug);
-        let linked = of_links.as_ref().map_or(&[][..], |_| &LINKED);
-        let mut of_clocks = Chance::new(plan.seed ^ OF_CLOCKS);
-        let (clocks, has_permits) = drawn_clocks(&mut of_clocks, bug);
-        let permitted: &[(Happening, u64)] = match has_permits {
-            true => &PERMITTED,
-            false => &[],
-        };
-        let happenings = drawn(&mut chance, &[more, linked, permitted].concat());
         let noted = (faults.clone(), timeline.clone());
-        let network = of_links.map(|it| SimulatedNetwork::new(it, time.clone(), bug, noted));
-        let control = is_controlled.then(|| ControlShape::new(&mut chance, shards, bug));
-        let tuning = drawn_tuning(&mut chance);
+        let of_store = Chance::new(chance.drawn());
+        let store = SimulatedStore::new(of_store, plan.bug, time.clone(), noted);
+        let noted = (faults.clone(), timeline.clone());
+        let network = chance_of_links(plan)
+            .map(|it| SimulatedNetwork::new(it, time.clone(), plan.bug, noted));
+        let shape = Shape::drawn(plan, &mut chance, (&time, network.is_some()));
         World {
             chance,
-            happenings,
-            shards,
-            control,
+            fleet: shape.fleet(plan, &time, &timeline),
+            shape,
             ledger: SharedLedger::default(),
-            bug,
-            machines: (0..PROCESSES)
-                .map(|_| clocks.of_machine(&mut of_clocks, &time))
-                .collect(),
-            clocks,
-            has_permits,
-            handings: Vec::new(),
-            holders: vec![None; usize::from(shards)],
+            bug: plan.bug,
             time,
             faults,
             timeline,
@@ -266,10 +181,10 @@ impl World {
             network,
             parcels: Parcels::default(),
             told: Claims::default(),
-            tuning,
             processes: (0..PROCESSES).map(|_| None).collect(),
             beginnings: (0..PROCESSES).map(|_| None).collect(),
             lives: 0,
+            client_watches: 0,
             clients: (1..=CLIENTS).map(Client::new).collect(),
             asked: Vec::new(),
             texts: 0,
@@ -278,14 +193,14 @@ impl World {
         }
     }
 
-    /// Each server runs; then all happens that chance has happen, and comes to its end.
+    /// Starts a process of each server. Then lets random events happen, and waits until everything is over.
     fn pass(&mut self) {
         (0..usize::from(SERVERS)).for_each(|it| self.start(it));
         while self.beginnings.iter().any(Option::is_some) {
             self.fly();
             self.turn_beginnings();
         }
-        let (is_controlled, events) = match self.control {
+        let (is_controlled, events) = match self.shape.control {
             Some(_) => (true, CONTROLLED_EVENTS),
             None => (false, EVENTS),
         };
@@ -297,6 +212,7 @@ impl World {
             true => self.begin_controls(),
             false => self.begin_commands(),
         }
+        self.begin_fleet();
         self.store().is_calm = false;
         (0..events).for_each(|_| self.happen());
         match is_controlled {
@@ -305,12 +221,13 @@ impl World {
         }
     }
 
-    /// A control leads, and each shard has an owner: so that schedules aren't spent on that.
+    /// Makes one control lead and gives each shard an owner, because schedules shouldn't spend their events on that.
     fn begin_commands(&mut self) {
         let process = self.processes[0].as_mut().expect("it has started");
-        let led = DurableControl::lead(process.durable.clone(), &settings(SHARDS, ROOM));
+        let shards = self.shape.shards;
+        let led = DurableControl::lead(process.durable.clone(), &settings(shards, ROOM));
         let mut control = led.expect("nothing is lost so far");
-        for shard in 0..SHARDS {
+        for shard in 0..shards {
             let owner = 1 + self.chance.below(u64::from(SERVERS)) as u16;
             let assigned = control.command(ControlCommand::Assign(shard, owner));
             assigned.expect("nothing is lost so far");
@@ -320,16 +237,16 @@ impl World {
         self.turn_members();
     }
 
-    /// Nothing fails any more, so within some time all that was asked is over: it is answered or refused.
+    /// Waits until all work is answered or refused. Nothing fails any more, so that must happen within some time.
     fn settle(&mut self) {
         self.store().is_calm = true;
-        let rounds = match self.network {
-            Some(_) => LINKED_SETTLING,
-            None => SETTLING,
+        let rounds = match (&self.network, &self.fleet) {
+            (Some(_), _) | (_, Some(_)) => LINKED_SETTLING,
+            (None, None) => SETTLING,
         };
         for _ in 0..rounds {
             self.asked.retain(|it| it.2.strong_count() > 0);
-            if self.asked.is_empty() {
+            if self.asked.is_empty() && self.are_calls_told() {
                 return self.rest();
             }
             self.time.pass(PERIOD);
@@ -341,7 +258,7 @@ impl World {
         });
     }
 
-    /// All that is on its way comes to its end, and each process does what is due.
+    /// Moves all messages on, and lets each process do the work that is due.
     fn settle_once(&mut self) {
         for _ in 0..5 {
             (0..PERIOD / 5).for_each(|_| self.settle_message());
@@ -352,12 +269,12 @@ impl World {
             process.member.turn();
         }
         self.turn_beginnings();
-        self.settle_permits();
-        // Processes that crashed are seen to be gone.
+        self.settle_fleets();
+        // The leases of crashed processes end, so others see that they are gone.
         self.lapse();
     }
 
-    /// Something that is on its way comes to its end, of each kind.
+    /// Moves one message of each kind on.
     fn settle_message(&mut self) {
         self.fly();
         self.deliver();
@@ -365,7 +282,7 @@ impl World {
         self.has_heard();
     }
 
-    /// All that is on its way comes to its end, as far as that leads to no end of more.
+    /// Moves all messages on until there are none. If messages lead to new ones without end, stops after a while.
     fn settle_messages(&mut self) {
         for _ in 0..PERIOD {
             if self.store().flights.is_empty() && self.mails.lock().expect("no panic").is_empty() {
@@ -375,11 +292,12 @@ impl World {
         }
     }
 
-    /// Checks all that was made and told.
+    /// Checks everything that was made and told.
     fn end(mut self) -> (Tally, Result<(), Broken>) {
         self.tally.passed_time = self.time.passed().as_millis() as u64;
         self.judge_operators();
         self.judge_links();
+        self.tally_fleet();
         self.judge_late_commands();
         for place in 0..PROCESSES {
             self.crash_at(place);
@@ -387,13 +305,13 @@ impl World {
         let mut told = std::mem::take(&mut *self.told.lock().expect("no panic"));
         let store = locked(&self.store);
         self.tally.lost = store.lost;
-        self.tally.faults = counts_of(&self.faults.struck());
+        self.tally.faults = FaultCounts::of(&self.faults.struck());
         for (_, transaction) in &store.made {
             let written = Written::of(transaction);
             written.iter().for_each(|it| self.tally.note_made(it));
         }
         told.iter().for_each(|it| self.tally.note_told(it));
-        // What else was asked under the same number may be made.
+        // Drops the claims that aren't final, because the same request may be made at another process.
         told.retain(|it| it.is_final());
         let verdict = check(&store.made, &told);
         (self.tally, self.fault.map_or(verdict, Err))
@@ -403,12 +321,13 @@ impl World {
         locked(&self.store)
     }
 
-    /// Something happens, by the weights of this schedule.
+    /// Lets a random event happen, by the weights of this schedule.
     fn happen(&mut self) {
         self.tally.events += 1;
-        let all: u64 = self.happenings.iter().map(|it| it.1).sum();
+        let all: u64 = self.shape.happenings.iter().map(|it| it.1).sum();
         let mut at = self.chance.below(all);
         let happens = self
+            .shape
             .happenings
             .iter()
             .find(|it| match at.checked_sub(it.1) {
@@ -421,10 +340,10 @@ impl World {
         if let Some((happens, _)) = happens.copied() {
             happens(self);
         }
-        self.judge_permits();
+        self.judge_fleets();
     }
 
-    /// The place of a process that runs, and isn't paused, if there is one where chance looks.
+    /// Returns a random place, if a process runs there and isn't paused.
     fn place(&mut self) -> Option<usize> {
         let at = self.chance.below(PROCESSES as u64) as usize;
         let now = self.time.passed();
@@ -439,7 +358,7 @@ impl World {
         self.processes[at].as_mut()
     }
 
-    /// Time passes: mostly a little, sometimes as much as ends a lease that isn't kept.
+    /// Lets time pass. It is mostly short, but sometimes long enough to end a lease that isn't kept.
     fn pass_time(&mut self) {
         let most = match self.chance.below(16) {
             0 => 1_500,
@@ -449,7 +368,7 @@ impl World {
         self.time.pass(self.chance.below(most));
     }
 
-    /// Something that was sent to the store gets on.
+    /// Moves a transaction or an outcome of the store on.
     fn fly(&mut self) {
         let told = self.store().fly();
         if let Some((done, became)) = told {
@@ -457,12 +376,12 @@ impl World {
         }
     }
 
-    /// A watch tells something.
+    /// Lets a watch tell something.
     fn hear(&mut self) {
         self.has_heard();
     }
 
-    /// Has a watch tell something; returns whether one did.
+    /// Lets a watch tell something. Returns whether one did.
     fn has_heard(&mut self) -> bool {
         let heard = self.store().hear();
         let Some((number, mut watcher, seen)) = heard else {
@@ -473,7 +392,7 @@ impl World {
         true
     }
 
-    /// A process reads what it was to read. It may learn of that later.
+    /// Lets a process do a reading that is due. The process may learn of the result later.
     fn read(&mut self) {
         let (first, faults) = (self.chance.drawn(), self.faults.clone());
         let Some(process) = self.process() else {
@@ -502,7 +421,7 @@ impl World {
         self.store().lapse();
     }
 
-    /// The store may come into trouble.
+    /// Draws the faults that strike the store.
     fn trouble_store(&mut self) {
         self.store().come_into_trouble();
     }
@@ -517,13 +436,13 @@ impl World {
         }
     }
 
-    /// A process starts.
+    /// Starts a process at a random place.
     fn start_one(&mut self) {
         let at = self.chance.below(PROCESSES as u64) as usize;
         self.start_at(at);
     }
 
-    /// How the links of a process are, if it has those that ship.
+    /// Returns the shape of the process's links, if it has those that ship.
     fn link_shape(&mut self, sender: Sender) -> Option<LinkShape> {
         let network = self.network.as_mut()?;
         let is_older = self.chance.is_true(1, 6);
@@ -539,7 +458,7 @@ impl World {
         })
     }
 
-    /// A process stops and has forgotten everything. Its lease goes on until it ends by itself.
+    /// Crashes a process, which forgets everything. Its lease goes on until it ends by itself.
     fn crash(&mut self) {
         if let Some(at) = self
             .place()
@@ -549,7 +468,7 @@ impl World {
         }
     }
 
-    /// Whether this fault strikes the process at this place.
+    /// Draws whether this fault strikes the process at this place.
     fn strikes(&self, fault: Fault, times: u64, of: u64, place: usize) -> bool {
         self.faults
             .strikes(fault, times, of, Column::Process(place))
@@ -561,11 +480,12 @@ impl World {
         process.into_iter().for_each(|it| self.bury(it));
     }
 
-    /// A process has ended.
-    fn bury(&mut self, process: Process) {
+    /// Notes that a process has ended.
+    fn bury(&mut self, mut process: Process) {
         let mut ledger = self.ledger.lock().expect("no panic");
         ledger.ended.insert(process.sender.life);
         drop(ledger);
+        self.forget_fleet(&mut process);
         self.timeline.note(process.column(), || GONE.to_owned());
         let life = process.sender.life;
         self.network.iter_mut().for_each(|it| it.forget(life));
@@ -575,13 +495,13 @@ impl World {
         self.tally.by_lease += process.durable.read_by_lease();
     }
 
-    /// A process leads, if nobody does, or takes that over.
+    /// Makes a process lead, if there is no leader or if it takes the lead over.
     fn elect(&mut self) {
-        let takes_over = self.chance.is_true(1, 4);
+        let (takes_over, shards) = (self.chance.is_true(1, 4), self.shape.shards);
         let Some(process) = self.process() else {
             return;
         };
-        let (durable, line) = (process.durable.clone(), settings(SHARDS, ROOM));
+        let (durable, line) = (process.durable.clone(), settings(shards, ROOM));
         let led = match takes_over {
             true => DurableControl::lead(durable, &line).map(Some),
             false => DurableControl::campaign(durable, &line),
@@ -593,7 +513,7 @@ impl World {
         }
     }
 
-    /// A control that believes that it leads is asked for something.
+    /// Gives a random command to a control that believes that it leads.
     fn command(&mut self) {
         let leads = |it: &Option<Process>| it.as_ref().is_some_and(|it| it.control.is_some());
         let leading: Vec<usize> = (0..PROCESSES)
@@ -606,7 +526,7 @@ impl World {
         let Some(mut control) = process.control.take() else {
             return;
         };
-        match command(&mut control, &mut self.chance, SHARDS) {
+        match command(&mut control, &mut self.chance, self.shape.shards) {
             Err(Refused::NotLeader) => return,
             Err(refused) => self.note_refused(&refused),
             Ok(()) => {
@@ -619,7 +539,7 @@ impl World {
         }
     }
 
-    /// Checks that nothing was made that a control had given up.
+    /// Checks that no command was made after its control had given it up.
     fn judge_late_commands(&mut self) {
         let made_late = self.store().made_late.clone();
         if let Some(by) = made_late {
@@ -633,8 +553,14 @@ impl World {
             | Refused::NotLeader
             | Refused::StillThere(_)
             | Refused::Read(_)
+            | Refused::InUse(_)
+            | Refused::Unkept
             | Refused::Write(_) => {}
-            Refused::Damaged(_) | Refused::OtherSettings => {
+            Refused::Damaged(_)
+            | Refused::OtherSettings
+            | Refused::OtherShards
+            | Refused::OtherCeiling
+            | Refused::BadSettings(_) => {
                 self.fault.get_or_insert(Broken {
                     law: "a control can read what lies there",
                     by: refused.to_string(),
@@ -643,7 +569,7 @@ impl World {
         }
     }
 
-    /// Nobody waits any more for something that was asked.
+    /// Makes somebody stop waiting for work.
     fn give_up(&mut self) {
         let at = self.chance.below(self.asked.len().max(1) as u64) as usize;
         if let Some(wanted) = self.asked.get(at).and_then(|it| it.2.upgrade()) {
@@ -651,9 +577,9 @@ impl World {
         }
     }
 
-    /// Somebody asks a process for something, or for what a client numbered: again, or anew.
+    /// Asks a process for new work, or for work that a client numbered. Numbered work may be asked for again.
     fn ask(&mut self) {
-        let shard = self.chance.below(u64::from(self.shards)) as u16;
+        let shard = self.chance.below(u64::from(self.shape.shards)) as u16;
         let (shard, begins) = match self.chance.below(3) {
             0 => self.numbered(shard),
             _ => {
@@ -672,15 +598,15 @@ impl World {
         let asked = (shard, begin.clone(), Arc::downgrade(&is_wanted));
         self.asked.push(asked);
         self.texts += 1;
-        // What may write is never decided by a lease.
+        // Work that may write must never read by a lease.
         let reads = match begin.only_reads() {
-            true => self.tuning.reads,
+            true => self.shape.shard_options.reads,
             false => Reads::Exact,
         };
         let since = match reads {
             Reads::Exact => self.store().revision(),
             Reads::Lease => {
-                let longest = self.clocks.longest(LEASE);
+                let longest = self.shape.clocks.longest(LEASE);
                 let since = self.time.passed().saturating_sub(longest);
                 self.store().revision_at(since)
             }
@@ -701,7 +627,8 @@ impl World {
         WorkStep { begin, work }
     }
 
-    /// What a client has numbered: what it asked before, or something new of this shard.
+    /// Returns the shard and the work of a client that numbers its requests. It asks for its last requests again, or
+    /// for new ones of this shard.
     fn numbered(&mut self, shard: u16) -> (u16, Vec<Begin>) {
         let at = self.chance.below(CLIENTS) as usize;
         let is_over = self.clients[at].current.is_none() || self.chance.is_true(1, 3);
@@ -741,7 +668,7 @@ impl World {
         }
     }
 
-    /// Requests that are made once, of which the first is like no other.
+    /// Returns requests that are made once. The bytes of the first one are unique.
     fn requests(&mut self) -> Vec<MapRequest> {
         self.texts += 1;
         let key = self.key();
@@ -763,7 +690,7 @@ impl World {
         process.is_some_and(|it| it.sender == sender)
     }
 
-    /// Steps of one process reach another, are lost, or come back.
+    /// Brings steps of one process to another one, or back, or loses them.
     fn deliver(&mut self) {
         let Some(message) = self.message() else {
             return;
@@ -785,7 +712,10 @@ impl World {
             Some(target) => {
                 self.tally.forwarded += 1;
                 let elsewhere = message.elsewhere.clone();
-                let (there, here) = (&self.machines[runs[at]], &self.machines[sender.place]);
+                let (there, here) = (
+                    &self.shape.machines[runs[at]],
+                    &self.shape.machines[sender.place],
+                );
                 let since = there.moment_of(here, elsewhere.since);
                 let came = elsewhere.came;
                 let steps = visiting(&self.mails, message);
@@ -810,7 +740,7 @@ impl World {
         (at < mail.messages.len()).then(|| mail.messages.swap_remove(at))
     }
 
-    /// What became of a step comes back to the process that sent it, or is lost.
+    /// Brings the outcome of a step back to the process that sent it, or loses it.
     fn answer(&mut self) {
         let Some(answer) = self.one_answer() else {
             return;
@@ -847,46 +777,20 @@ impl World {
     }
 }
 
-/// Returns the chance of what is between processes, if these have the links that ship: as the seeds of the other
-/// schedules are those of before there were any, it is one of its own.
-fn chance_of_links(seed: u64, bug: Option<Bug>) -> Option<Chance> {
-    let mut chance = Chance::new(!seed);
-    let is_linked = match bug {
-        Some(bug) => bug.is_of_links(),
-        None => chance.is_true(1, 2),
+/// Returns the random numbers of the network, if the processes have the links that ship. Those of a fleet have none.
+/// The numbers have a stream of their own, because the seeds of other schedules must stay as they were before there
+/// were links.
+fn chance_of_links(plan: &Plan) -> Option<Chance> {
+    let mut chance = Chance::new(!plan.seed);
+    let is_linked = match (plan.part, plan.bug) {
+        (Part::Fleet, _) => false,
+        (_, Some(bug)) => bug.is_of_links(),
+        (_, None) => chance.is_true(1, 2),
     };
     is_linked.then_some(chance)
 }
 
-/// Returns how the clocks of this schedule are, and whether a service executes by permits.
-fn drawn_clocks(chance: &mut Chance, bug: Option<Bug>) -> (Clocks, bool) {
-    let (clocks, has_permits) = (Clocks::drawn(chance), chance.is_true(1, 3));
-    match bug {
-        Some(bug) if bug.is_of_permits() => (Clocks::Within, true),
-        _ => (clocks, has_permits),
-    }
-}
-
-/// How the shards of this schedule are.
-fn drawn_tuning(chance: &mut Chance) -> Tuning {
-    Tuning {
-        wait: WAIT,
-        most_batches: MOST_BATCHES,
-        reads: match chance.is_true(1, 3) {
-            true => Reads::Lease,
-            false => Reads::Exact,
-        },
-    }
-}
-
-/// What happens, and this beside it, as often as chance has it.
-fn drawn(chance: &mut Chance, more: &[(Happening, u64)]) -> Vec<(Happening, u64)> {
-    let all = HAPPENINGS.iter().chain(more);
-    let all = all.map(|it| (it.0, it.1 * [1, 2, 2, 2, 4][chance.below(5) as usize]));
-    all.collect()
-}
-
-/// The server of a process at this place.
+/// Returns the server of the process at this place.
 fn server_of(place: usize) -> u16 {
     place as u16 % SERVERS + 1
 }

@@ -1,4 +1,5 @@
-//! The simulated etcd answers as a real one does, revision by revision. Nothing is tried if etcd isn't installed.
+//! Checks that the simulated etcd answers as a real one does, revision by revision. If etcd isn't installed, nothing is
+//! compared.
 #[path = "../../store/tests/beside/mod.rs"]
 mod beside;
 
@@ -14,19 +15,19 @@ use std::io::{BufRead, BufReader, Write};
 use std::net::TcpStream;
 use std::time::{Duration, Instant};
 
-/// How many operations are compared of each seed, if DURKENZO_ETCD_STEPS doesn't say.
+/// How many operations are compared for each seed, if `DURKENZO_ETCD_STEPS` isn't a number.
 const STEPS: u64 = 600;
 const SEEDS: [u64; 2] = [1, 2];
-/// How many keys and leases operations are about.
+/// How many keys and leases the operations are about.
 const KEYS: u64 = 8;
 const LEASES: u64 = 5;
-/// How long a lease is that doesn't end by itself, and one that does, in seconds.
+/// The length in seconds of a lease that doesn't end by itself, and of one that does.
 const LONG: u64 = 3_600;
 const SHORT: u64 = 2;
-/// A key that is written to see that a watch has told all before.
+/// A key that is written last. Once a watch tells it, the watch has told all changes before.
 const LAST: &[u8] = b"k/last";
 
-/// What a real etcd answers.
+/// A real etcd, which is asked.
 struct Real {
     member: Member,
 }
@@ -39,7 +40,7 @@ fn bytes(value: &Value) -> Vec<u8> {
     base64::decode(value.as_str().unwrap_or_default()).expect("bytes")
 }
 
-/// A number, which the gateway leaves out if it is 0.
+/// Returns the number in a field. If the number is 0, the gateway leaves the field out.
 fn number(value: &Value) -> u64 {
     let told = value.as_str().map(|it| it.parse().expect("a number"));
     told.unwrap_or(0)
@@ -90,7 +91,7 @@ fn response(value: &Value) -> Response {
     }
 }
 
-/// By their words, what etcd's refusals are.
+/// The refusals of etcd, by words in their messages.
 const REFUSALS: [(&str, EtcdRefusal); 6] = [
     ("has been compacted", EtcdRefusal::Compacted),
     ("is a future revision", EtcdRefusal::Future),
@@ -162,7 +163,7 @@ impl Real {
             .map(drop)
     }
 
-    /// The keys of a lease; none if it has ended.
+    /// Returns the keys of a lease. Returns `None` if the lease has ended.
     fn keys_of(&self, lease: LeaseId) -> Option<Vec<Vec<u8>>> {
         let asked = json!({"ID": lease.0, "keys": true});
         let answer = self.ask("/v3/lease/timetolive", &asked).expect("an answer");
@@ -172,7 +173,8 @@ impl Real {
         (answer["TTL"] != "-1").then_some(keys)
     }
 
-    /// What a watch hears from this revision on, up to that one, which has a change of the range.
+    /// Returns the changes that a watch hears from one revision up to the other. The range must have a change at the
+    /// last revision, because the watch is read until that change comes.
     fn heard(&self, range: &RangeQuery, from: u64, until: u64) -> Heard {
         let create =
             json!({"key": text(&range.key), "range_end": text(&range.end), "start_revision": from});
@@ -201,7 +203,7 @@ impl Real {
         panic!("the watch ends");
     }
 
-    /// Has the member say that it is full, or not any more.
+    /// Makes the member say that it is full, or that it isn't any more.
     fn set_full(&self, is_full: bool) {
         let status = self
             .ask("/v3/maintenance/status", &json!({}))
@@ -224,7 +226,7 @@ fn change(event: &Value) -> KeyChange {
     }
 }
 
-/// A real etcd and the simulated one, which are asked the same.
+/// A real etcd and the simulated one. Both get the same requests.
 struct Both {
     real: Real,
     simulated: Keyspace,
@@ -236,7 +238,7 @@ impl Both {
         format!("k/{}", self.chance.below(KEYS)).into_bytes()
     }
 
-    /// The end of a range: of one key, of some, or of all that there are.
+    /// Returns the end of a range: of one key, of some keys, or of all keys to the last one.
     fn end(&mut self) -> Vec<u8> {
         match self.chance.below(4) {
             0 => self.key(),
@@ -249,7 +251,7 @@ impl Both {
         LeaseId(1 + self.chance.below(LEASES) as i64)
     }
 
-    /// A revision that is there, or was, or will be.
+    /// Returns a revision that is there, or was there, or will be there.
     fn revision(&mut self) -> u64 {
         let latest = self.simulated.revision();
         (latest + 2).saturating_sub(self.chance.below(latest.min(12) + 2))
@@ -269,7 +271,8 @@ impl Both {
 
     fn operation(&mut self) -> Operation {
         match self.chance.below(8) {
-            // In a range to the last key etcd looks for no key that is written twice, and clients send none.
+            // If a range goes to the last key, etcd doesn't look for keys that are written twice. Clients delete no
+            // such range.
             0 | 1 => Operation::Delete {
                 key: self.key(),
                 end: self.end().into_iter().filter(|it| *it > 0).collect(),
@@ -309,7 +312,7 @@ impl Both {
         }
     }
 
-    /// Compares one operation of chance.
+    /// Compares one operation by chance.
     fn step(&mut self) {
         match self.chance.below(32) {
             0 => {
@@ -363,10 +366,11 @@ impl Both {
         assert_eq!(keys, self.real.keys_of(lease), "{lease}");
     }
 
-    /// Compares what a watch hears from a revision on, behind which the last key is put.
+    /// Compares the changes that a watch hears from a revision on. The last key is put before, so that both watches
+    /// have an end.
     fn watch(&mut self) {
         let from = self.revision().min(self.simulated.revision());
-        // Full ones take nothing that would end a watch.
+        // If an etcd is full, it doesn't take the put that ends a watch.
         self.real.set_full(false);
         self.simulated.set_full(false);
         let put = EtcdTransaction {
@@ -387,7 +391,8 @@ impl Both {
         assert_eq!(told, self.real.heard(&range, from, until), "from {from}");
     }
 
-    /// A lease ends by itself, at the real one not before it may, with its keys at one revision.
+    /// Compares a lease that ends by itself. The real etcd must not end it too early. Its keys are deleted at one
+    /// revision.
     fn end_a_lease(&mut self) {
         self.real.set_full(false);
         self.simulated.set_full(false);

@@ -1,15 +1,17 @@
-//! Schedules leave no memory behind. It is measured of the whole process, so this is its only test.
+//! Checks that schedules leave no memory behind. The memory of the whole process is measured, so this must be the only
+//! test in this file.
 use simulation::part::Part;
 use simulation::plan::Plan;
 use simulation::world::run_by;
 use std::fs;
 
-/// How many schedules are run before memory is measured, and then, and how many kilobytes may come to it meanwhile.
+/// How many schedules run before memory is measured, how many run after that, and by how many kilobytes memory may grow
+/// meanwhile.
 const FIRST: u64 = 400;
 const LATER: u64 = 2_000;
 const MOST_GROWTH: u64 = 8_192;
 
-/// The memory of this process, in kilobytes.
+/// Returns the memory of this process in kilobytes.
 fn memory() -> u64 {
     let status = fs::read_to_string("/proc/self/status").expect("Linux tells it");
     let line = status.lines().find_map(|it| it.strip_prefix("VmRSS:"));
@@ -17,7 +19,7 @@ fn memory() -> u64 {
     number.and_then(|it| it.parse().ok()).expect("kilobytes")
 }
 
-/// Processes and clients that have ended leave no memory behind, whatever waited in them.
+/// Checks that processes and clients leave no memory behind when they have ended, whatever waited in them.
 #[test]
 fn schedules_leave_no_memory_behind() {
     for part in Part::ALL {

@@ -1,4 +1,4 @@
-//! Each planted bug is found by schedules of chance, and none is found where none is planted.
+//! Checks that random schedules find each planted bug, and that they find nothing if no bug is planted.
 use simulation::bug::{Bug, BUGS};
 use simulation::part::Part;
 use simulation::plan::Plan;

@@ -1,11 +1,12 @@
-//! What failed once fails no more, one seed is one run, and what still fails is shrunk and drawn.
+//! Checks that seeds that failed once fail no more, and that a schedule that still fails is shrunk and drawn. A plan
+//! that is run twice must draw the same.
 use simulation::bug::Bug;
 use simulation::faults::Kept;
 use simulation::plan::Plan;
 use simulation::shrink::shrunk;
 use simulation::world::{run, run_by};
 
-/// The seeds that failed, each with its part and why.
+/// The seeds that failed, each with its part and the reason.
 const SEEDS: &str = include_str!("../seeds.txt");
 
 #[test]
@@ -24,7 +25,7 @@ fn seeds_that_failed_fail_no_more() {
     }
 }
 
-/// The schedule that a plan shows.
+/// Returns the timeline of a plan.
 fn shown(plan: &Plan) -> String {
     let ran = run_by(&Plan {
         is_shown: true,
@@ -33,7 +34,7 @@ fn shown(plan: &Plan) -> String {
     ran.timeline.expect("it is shown")
 }
 
-/// A bug that needs faults is shrunk to few, which break the same law again, and are in the timeline.
+/// Checks that a bug that needs faults is shrunk to few. These must break the same law again, and be in the timeline.
 #[test]
 fn what_fails_is_shrunk_and_drawn() {
     let bug = Some(Bug::UnknownAsLost);
@@ -58,7 +59,7 @@ fn what_fails_is_shrunk_and_drawn() {
             "{fault}: {timeline}"
         );
     }
-    // None of them can be left out.
+    // If any of them is left out, the same law must not be broken.
     for at in 0..faults.len() {
         let fewer = [&faults[..at], &faults[at + 1..]].concat();
         let verdict = run_by(&kept(&fewer)).verdict;

@@ -1,12 +1,12 @@
 /// A call that a client made, with the moments of its beginning and its end.
 #[derive(Clone, Debug, PartialEq, Eq)]
 pub struct Call<I, O> {
-    /// What was asked.
+    /// The request of the call.
     pub input: I,
-    /// What was answered; none where the client can't know whether it was done.
+    /// The answer, or none if the client can't know whether the request was done.
     pub output: Option<O>,
     /// A moment before it was sent.
     pub began: u64,
-    /// A moment after its answer came; for a call without answer it counts for nothing.
+    /// A moment after its answer came. For a call without an answer it means nothing.
     pub ended: u64,
 }

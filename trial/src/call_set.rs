@@ -1,4 +1,4 @@
-/// A set of calls by their numbers, of which low ones come first.
+/// A set of calls by their numbers, in which low numbers come first.
 pub(crate) struct CallSet {
     bits: Vec<u64>,
     /// All words before this one are full.
@@ -8,7 +8,7 @@ pub(crate) struct CallSet {
 }
 
 impl CallSet {
-    /// None of so many calls.
+    /// Returns the empty set of this many calls.
     pub(crate) fn new(count: usize) -> CallSet {
         CallSet {
             bits: vec![0; count.div_ceil(64)],
@@ -37,12 +37,13 @@ impl CallSet {
         }
     }
 
-    /// Its words, as many as of each set of so many calls.
+    /// Returns the set's words: as many as in every set of this many calls.
     pub(crate) fn bits(&self) -> &[u64] {
         &self.bits
     }
 
-    /// What tells it from other sets, shortly: how many words are full, and those after them that have a bit.
+    /// Returns a short key that tells this set from others: how many words are full, and the words after them that have
+    /// a bit.
     pub(crate) fn key(&self) -> (usize, Box<[u64]>) {
         (
             self.full,

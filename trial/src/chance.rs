@@ -1,9 +1,9 @@
-/// A stream of numbers that a seed gives.
+/// A stream of numbers from a seed.
 #[derive(Clone, Debug)]
 pub(crate) struct Chance(u64);
 
 impl Chance {
-    /// That of a client of this name.
+    /// Returns the stream of the client with this name.
     pub(crate) fn new(seed: u64, name: u64) -> Chance {
         Chance(seed ^ name.wrapping_mul(0x9e37_79b9_7f4a_7c15))
     }

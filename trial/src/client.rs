@@ -2,20 +2,20 @@ use std::io::{self, BufRead, BufReader, Read, Write};
 use std::net::{TcpStream, ToSocketAddrs};
 use std::time::Duration;
 
-/// The most bytes of a reply: a server's has far fewer.
+/// The most bytes of a reply. A server's reply has far fewer.
 const MOST: usize = 64 << 20;
 
 /// A connection that speaks the Redis protocol.
 pub struct RespClient {
     stream: BufReader<TcpStream>,
-    /// How many bytes the reply that is being read may have yet.
+    /// How many more bytes the reply may have that is being read.
     left: usize,
 }
 
-/// What a server answers.
+/// A reply of a server.
 #[derive(Clone, Debug, PartialEq, Eq)]
 pub enum RespReply {
-    /// A line, as `OK`.
+    /// A line, such as `OK`.
     Line(String),
     /// A number.
     Number(i64),
@@ -27,12 +27,12 @@ pub enum RespReply {
     Error(String),
 }
 
-/// Why there is no reply: the command may have been done.
+/// Why there is no reply. The command may have been done.
 #[derive(Debug)]
 pub struct Failure(pub io::Error);
 
 impl Failure {
-    /// Whether what came is no reply.
+    /// Returns whether bytes came that aren't a reply.
     pub fn is_garbled(&self) -> bool {
         self.0.kind() == io::ErrorKind::InvalidData
     }
@@ -45,11 +45,11 @@ impl From<io::Error> for Failure {
 }
 
 impl RespClient {
-    /// Connects, and waits for that and for replies no longer than this.
+    /// Connects, and waits at most this long, for the connection and for each reply.
     ///
     /// # Errors
     ///
-    /// Where nobody listens there, or takes the connection in time.
+    /// If nobody listens there, or nobody takes the connection in time.
     pub fn connect(address: impl ToSocketAddrs, patience: Duration) -> io::Result<RespClient> {
         let address = address.to_socket_addrs()?.next();
         let address = address.ok_or_else(|| io::Error::from(io::ErrorKind::NotFound))?;
@@ -68,7 +68,7 @@ impl RespClient {
     ///
     /// # Errors
     ///
-    /// Where none comes, or one of more than 64 MiB; the connection is then of no use.
+    /// If no reply comes, or one of more than 64 MiB. The connection must not be used after that.
     pub fn call(&mut self, words: &[&str]) -> Result<RespReply, Failure> {
         let mut sent = format!("*{}\r\n", words.len());
         for word in words {
@@ -112,7 +112,7 @@ impl RespClient {
         }
     }
 
-    /// The text of this length that comes next, and the end of its line.
+    /// Returns the next text, which has this length, and reads the end of its line.
     fn text(&mut self, length: &str) -> Result<String, Failure> {
         let wrong = |came: &str| garbled(&format!("${length} {came}"));
         let whole = length.parse().ok().and_then(|it: usize| it.checked_add(2));

@@ -1,22 +1,22 @@
 use crate::{Failure, KeyAnswer, KeyCommand, RespReply};
 
-/// What came of a command.
+/// The outcome of a command.
 #[derive(Debug)]
 pub enum CommandOutcome {
-    /// Nobody got it.
+    /// No server got it.
     NotSent,
     /// Its answer.
     Answer(KeyAnswer),
     /// This refusal: it did nothing.
     Refused(String),
-    /// This, which answers nothing that was asked: it may have been done, or may be done yet.
+    /// This reply, which answers no request: the command may have been done, or may be done later.
     Garbled(String),
-    /// It may have been done, or may be done yet.
+    /// The command may have been done, or may be done later.
     Unknown,
 }
 
 impl CommandOutcome {
-    /// What came of this command, by its reply or why there is none.
+    /// Returns the outcome of this command, by its reply or by why there is none.
     pub fn of(input: &KeyCommand, reply: Result<RespReply, Failure>) -> CommandOutcome {
         match reply {
             Ok(reply) => match (input.answer(&reply), reply) {

@@ -15,19 +15,19 @@ const HEAD: usize = 0;
 /// The beginnings and ends of all calls with an answer that aren't in the order yet, in the order of their moments.
 pub(crate) struct Events {
     events: Vec<Event>,
-    /// Of each beginning, where its end stands.
+    /// By beginning, the place of its end.
     ends: Vec<usize>,
     left: usize,
 }
 
 impl Events {
-    /// Those of these calls, which all have an answer.
+    /// Returns the events of these calls, which must all have an answer.
     pub(crate) fn new<'a, I: 'a, O: 'a>(calls: impl Iterator<Item = &'a Call<I, O>>) -> Events {
         let mut moments: Vec<_> = calls
             .enumerate()
             .flat_map(|(call, it)| [(it.began, false, call), (it.ended, true, call)])
             .collect();
-        // Of events at one moment beginnings come first: calls that may overlap do.
+        // Of the events at one moment, beginnings come first, because calls that may overlap do overlap.
         moments.sort_unstable();
         let count = moments.len();
         let mut events = vec![Event {
@@ -62,28 +62,28 @@ impl Events {
         }
     }
 
-    /// Whether all calls are in the order.
+    /// Returns whether all calls are in the order.
     pub(crate) fn is_empty(&self) -> bool {
         self.left == 0
     }
 
-    /// The first beginning, if it comes before each end.
+    /// Returns the first beginning, if it comes before each end.
     pub(crate) fn first(&self) -> Option<usize> {
         self.next(HEAD)
     }
 
-    /// The next beginning, if it comes before each end.
+    /// Returns the next beginning, if it comes before each end.
     pub(crate) fn next(&self, at: usize) -> Option<usize> {
         let after = self.events[at].after;
         (!self.events[after].is_end).then_some(after)
     }
 
-    /// The call of a beginning.
+    /// Returns the call of a beginning.
     pub(crate) fn call(&self, at: usize) -> usize {
         self.events[at].call
     }
 
-    /// The moment of the first end: what comes next in the order has begun before.
+    /// Returns the moment of the first end. The next call in the order began before it.
     pub(crate) fn first_end(&self) -> u64 {
         let mut at = self.events[HEAD].after;
         while !self.events[at].is_end {
@@ -92,14 +92,14 @@ impl Events {
         self.events[at].moment
     }
 
-    /// Has the call of this beginning be in the order.
+    /// Puts the call of this beginning into the order.
     pub(crate) fn take(&mut self, at: usize) {
         self.unlink(at);
         self.unlink(self.ends[at]);
         self.left -= 1;
     }
 
-    /// Has the call that was taken last not be there.
+    /// Takes the call that was taken last out of the order again.
     pub(crate) fn put_back(&mut self, at: usize) {
         self.link(self.ends[at]);
         self.link(at);

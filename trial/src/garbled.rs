@@ -4,17 +4,17 @@ use std::fmt;
 const KEPT: usize = 5;
 const SHOWN: usize = 200;
 
-/// Replies that answer nothing that was asked.
+/// Replies that answer no request.
 #[derive(Clone, Debug, Default)]
 pub struct Garbled {
     /// How many there are.
     pub count: u64,
-    /// What was asked, and what came, of the first of them.
+    /// The request and the reply, of the first of them.
     pub first: Vec<String>,
 }
 
 impl Garbled {
-    /// Notes that this came where that was asked.
+    /// Notes that this reply came to this request.
     pub fn note(&mut self, asked: &str, came: &str) {
         self.count += 1;
         let told = format!("{asked} was answered by {came}");
@@ -22,7 +22,7 @@ impl Garbled {
         self.first.truncate(KEPT);
     }
 
-    /// Takes those of another client.
+    /// Adds the replies of another client.
     pub(crate) fn take(&mut self, other: Garbled) {
         self.count += other.count;
         self.first.extend(other.first);

@@ -6,26 +6,26 @@ use std::time::{Duration, Instant};
 /// How a client reaches servers.
 #[derive(Clone, Copy, Debug, PartialEq, Eq)]
 pub enum Way {
-    /// It calls the server of its turn, and the next one where that isn't there.
+    /// It calls the server of its turn, and the next one if that server isn't there.
     Server,
-    /// It reads which server owns what, and calls that.
+    /// It reads which server owns each shard, and calls the owner.
     Routes,
-    /// It numbers its writes, and sends one again until it is answered.
+    /// It numbers its writes, and sends each one again until it is answered.
     Numbers,
-    /// It reads alone.
+    /// It only reads.
     Reads,
 }
 
-/// How long a client waits that found no server, or sends a request again.
+/// How long a client waits if it found no server, or before it sends a request again.
 const PAUSE: Duration = Duration::from_millis(10);
 
 /// How many clients may number their requests.
 const MOST_CLIENTS: u64 = 4_096;
 
-/// How long after the end a numbered request is sent again.
+/// How long after the end a numbered request is still sent again.
 const GRACE: Duration = Duration::from_secs(10);
 
-/// A client that calls by chance, and records what it asked and what it was answered.
+/// A client that makes calls by chance, and records its requests and their answers.
 pub struct Hand<'a> {
     plan: &'a TrialPlan,
     name: u64,
@@ -33,7 +33,7 @@ pub struct Hand<'a> {
     chance: Chance,
     client: Option<(String, RespClient)>,
     routes: KeyRoutes,
-    /// Which server it calls.
+    /// The turn, which says which server it calls.
     turn: u64,
     /// How many numbered requests it made.
     numbered: u64,
@@ -41,7 +41,7 @@ pub struct Hand<'a> {
 }
 
 impl<'a> Hand<'a> {
-    /// One with a name of its own, which calls the server of this turn.
+    /// Returns a client with a name of its own, which calls the server of this turn.
     pub fn new(plan: &'a TrialPlan, name: u64, way: Way, turn: u64) -> Hand<'a> {
         Hand {
             plan,
@@ -56,7 +56,7 @@ impl<'a> Hand<'a> {
         }
     }
 
-    /// Calls one after another until the end, and gives what it recorded.
+    /// Makes calls one after another until the end, and returns their record.
     pub fn work(mut self) -> History {
         for number in 0.. {
             if Instant::now() >= self.plan.end {
@@ -74,7 +74,7 @@ impl<'a> Hand<'a> {
         self.history
     }
 
-    /// A key and a command by chance; what it writes no other call writes.
+    /// Returns a key and a command by chance. No other call writes the same text.
     fn next(&mut self, number: u64) -> (String, KeyCommand) {
         if self.way == Way::Numbers && self.chance.below(4) == 0 {
             return (self.plan.count(self.name), KeyCommand::Incr);
@@ -123,12 +123,12 @@ impl<'a> Hand<'a> {
         }
     }
 
-    /// The number of this client among those that number their requests.
+    /// Returns the number of this client among those that number their requests.
     fn client_number(&self) -> String {
         (self.name % MOST_CLIENTS + 1).to_string()
     }
 
-    /// Sends a command where its key is to be sent.
+    /// Sends a command to the server at which its key must be called.
     fn call(&mut self, key: &str, input: &KeyCommand, words: &[&str]) -> CommandOutcome {
         let address = match self.way {
             Way::Routes => self.routes.address(self.plan, key, self.turn),
@@ -143,7 +143,7 @@ impl<'a> Hand<'a> {
         let reply = client.call(words);
         let is_reply = reply.is_ok();
         let told = CommandOutcome::of(input, reply);
-        // Of what comes after a garbled reply nobody knows what it answers.
+        // After a garbled reply, nobody knows which request the next replies answer.
         match is_reply && !matches!(told, CommandOutcome::Garbled(_)) {
             true => self.client = Some((address, client)),
             false => self.pass_over(),
@@ -151,7 +151,7 @@ impl<'a> Hand<'a> {
         told
     }
 
-    /// Has the next call go to another server.
+    /// Makes the next call go to another server.
     fn pass_over(&mut self) {
         sleep(PAUSE);
         self.turn += 1;
@@ -192,7 +192,7 @@ impl<'a> Hand<'a> {
     }
 }
 
-/// Whether a numbered request that was refused so may not be sent again.
+/// Returns whether a numbered request that was refused in this way may not be sent again.
 fn is_final(refusal: &str) -> bool {
     refusal.starts_with("ERR") || refusal.starts_with("WRONGTYPE")
 }

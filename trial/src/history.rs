@@ -2,25 +2,25 @@ use crate::{Call, Garbled, KeyAnswer, KeyCommand};
 use std::collections::BTreeMap;
 use std::thread;
 
-/// What clients recorded: the calls of each key, what was refused, and what came instead of answers.
+/// The record of clients: the calls of each key, the refusals, and the replies that came instead of answers.
 #[derive(Debug, Default)]
 pub struct History {
     /// The calls of each key.
     pub calls: BTreeMap<String, Vec<Call<KeyCommand, KeyAnswer>>>,
-    /// How often each name came that says that nothing was done.
+    /// How often each refusal came, by its name. A call that was refused did nothing.
     pub refusals: BTreeMap<String, u64>,
     /// The refusal that came last.
     pub last_refusal: Option<String>,
     /// Why numbered requests were sent again, and how often.
     pub again: BTreeMap<String, u64>,
-    /// The replies that answer nothing that was asked.
+    /// The replies that answer no request.
     pub garbled: Garbled,
-    /// How many clients panicked, and what they recorded is lost.
+    /// How many clients panicked. Their record is lost.
     pub lost: u64,
 }
 
 impl History {
-    /// Takes what the thread of another client recorded, or notes that it panicked.
+    /// Takes the record of another client's thread, or notes that the thread panicked.
     pub fn join(&mut self, ended: thread::Result<History>) {
         match ended {
             Ok(other) => self.take(other),
@@ -53,17 +53,17 @@ impl History {
         self.last_refusal = Some(told.to_owned());
     }
 
-    /// Counts a request that is sent again, by why it is.
+    /// Counts a request that is sent again, by the reason for it.
     pub(crate) fn send_again(&mut self, why: &str) {
         *self.again.entry(name_of(why)).or_default() += 1;
     }
 
-    /// How many calls were refused.
+    /// Returns how many calls were refused.
     pub fn refused(&self) -> u64 {
         self.refusals.values().sum()
     }
 
-    /// How many calls there are, and how many of them have no answer.
+    /// Returns how many calls there are, and how many of them have no answer.
     pub fn counts(&self) -> (usize, usize) {
         let calls = || self.calls.values().flatten();
         (
@@ -73,7 +73,7 @@ impl History {
     }
 }
 
-/// The name with which a refusal begins.
+/// Returns the name with which a refusal begins.
 fn name_of(told: &str) -> String {
     let words = if told.starts_with("REFUSED ") { 2 } else { 1 };
     let words: Vec<_> = told.split(' ').take(words).collect();

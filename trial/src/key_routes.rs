@@ -1,14 +1,14 @@
 use crate::{RespClient, RespReply, TrialPlan};
 
-/// Which server is called for a key, as the servers tell.
+/// The routes of keys, as the servers tell them: which server a client must call for a key.
 #[derive(Debug, Default)]
 pub(crate) struct KeyRoutes {
-    /// Where clients reach the owner of each shard; empty where that isn't known.
+    /// The address of each shard's owner; empty if the owners aren't known.
     owners: Vec<String>,
 }
 
 impl KeyRoutes {
-    /// Where the key's owner listens; the address of this turn where nobody tells.
+    /// Returns the address of the key's owner, or the address of this turn if no server tells it.
     pub(crate) fn address(&mut self, plan: &TrialPlan, key: &str, turn: u64) -> String {
         if self.owners.is_empty() {
             self.owners = read(plan, turn).unwrap_or_default();
@@ -20,14 +20,14 @@ impl KeyRoutes {
         }
     }
 
-    /// Has them be asked for anew.
+    /// Forgets the routes, so that they are asked for again.
     pub(crate) fn forget(&mut self) {
         self.owners.clear();
     }
 }
 
-/// The addresses of the owners, as the server of this turn says: lines of a shard, its owner, and where clients reach
-/// it.
+/// Returns the addresses of the owners, as the server of this turn says: lines with a shard, its owner, and the owner's
+/// address for clients.
 fn read(plan: &TrialPlan, turn: u64) -> Option<Vec<String>> {
     let mut client = RespClient::connect(plan.address(turn), plan.patience).ok()?;
     let RespReply::List(lines) = client.call(&["SM", "ROUTES"]).ok()? else {
@@ -43,7 +43,7 @@ fn read(plan: &TrialPlan, turn: u64) -> Option<Vec<String>> {
     Some(lines.iter().skip(1).map(address).collect())
 }
 
-/// The sum by which the server spreads keys without braces.
+/// Returns the sum by which the server spreads keys without braces.
 fn hash(bytes: &[u8]) -> u64 {
     const ODD: u64 = 0x9e37_79b9_7f4a_7c15;
     let add = |sum: u64, word| (sum.rotate_left(29) ^ u64::from_le_bytes(word)).wrapping_mul(ODD);

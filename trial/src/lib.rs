@@ -1,8 +1,9 @@
-//! Whether what a server answered is what one map on one thread could have answered.
+//! Decides whether one map on one thread could have given the answers of a server.
 //!
-//! Clients record when each of their calls began and ended and what it gave ([`Call`]). [`is_linearizable`] looks for
-//! an order of these calls that one thread could have made ([`Model`]), in which each lies between its beginning and
-//! its end: the search of Wing and Gong, which with Lowe's cut meets no set of calls with the same state twice.
+//! Clients record when each of their calls began and ended, and its answer ([`Call`]). [`is_linearizable`] looks for an
+//! order of these calls that one thread could have made ([`Model`]), in which each lies between its beginning and its
+//! end. It is the search of Wing and Gong. With Lowe's cut, the search never meets the same set of calls with the same
+//! state twice.
 #![forbid(unsafe_code)]
 #![warn(missing_docs)]
 

@@ -1,4 +1,4 @@
-//! Calls servers for a while beside moving shards and faults, and says whether their answers are those of one thread.
+//! Calls servers for a while, beside moving shards and faults, and says whether their answers are those of one thread.
 use clap::Parser;
 use durkenzo_trial::{
     Call, CommandOutcome, Hand, History, KeyAnswer, KeyCommand, Mover, Report, RespClient,
@@ -11,10 +11,10 @@ use std::sync::atomic::AtomicU64;
 use std::thread;
 use std::time::{Duration, Instant};
 
-/// How long a last read is tried.
+/// How long a last read is tried again.
 const LAST: Duration = Duration::from_secs(60);
 
-/// The exit statuses where nothing wrong was found: but a key isn't answered any more, or not all are decided.
+/// The exit statuses if no wrong answer was found, but a key isn't answered any more, or not all keys are decided.
 const UNREAD: u8 = 3;
 const UNDECIDED: u8 = 4;
 
@@ -23,7 +23,7 @@ const UNDECIDED: u8 = 4;
 #[derive(Parser)]
 #[command(version)]
 struct Options {
-    /// Where the server listens, or several do
+    /// The address of the server, or of several
     #[arg(long, default_value = "127.0.0.1:7379", value_delimiter = ',')]
     address: Vec<String>,
     /// How many clients call
@@ -35,37 +35,37 @@ struct Options {
     /// How many of them number their writes
     #[arg(long, default_value_t = 0)]
     numbered: u64,
-    /// How many keys they call of
+    /// How many keys they call
     #[arg(long, default_value_t = 16)]
     keys: u64,
-    /// How many of them read alone, at the first server, at which then no other one begins
+    /// How many of them only read, at the first server; if there are any, no other client begins there
     #[arg(long, default_value_t = 0)]
     readers: u64,
-    /// After how many seconds other keys take their place, and at the end all are read; 0 is never
+    /// After how many seconds other keys take their place, never if it is 0; at the end all keys are read
     #[arg(long, default_value_t = 0)]
     epoch: u64,
-    /// How many seconds a reply is waited for
+    /// How many seconds a client waits for a reply
     #[arg(long, default_value_t = 10)]
     patience: u64,
-    /// How long
+    /// For how many seconds clients call
     #[arg(long, default_value_t = 10)]
     seconds: u64,
     /// How many servers the server has
     #[arg(long, default_value_t = 4)]
     servers: u64,
-    /// How many of its shards move; 0 is none
+    /// How many of its shards move, none if it is 0
     #[arg(long, default_value_t = 64)]
     shards: u64,
-    /// After how many moves a server restarts; 0 is never
+    /// After how many moves a server restarts, never if it is 0
     #[arg(long, default_value_t = 50)]
     restart_every: u64,
-    /// What chance begins with
+    /// The seed of chance
     #[arg(long, default_value_t = 1)]
     seed: u64,
-    /// How many seconds keys are judged at most
+    /// For at most how many seconds keys are judged
     #[arg(long, default_value_t = 120)]
     judging: u64,
-    /// The folder in which the calls are written of each key of which no order is known
+    /// The folder for the calls of each key for which no order is known
     #[arg(long)]
     unexplained: Option<PathBuf>,
 }
@@ -85,7 +85,7 @@ impl Options {
         }
     }
 
-    /// The turn of the server that the client of this name calls.
+    /// Returns the turn of the server that the client of this name calls.
     fn turn(&self, name: u64) -> u64 {
         match self.way(name) {
             Way::Reads => 0,
@@ -94,7 +94,7 @@ impl Options {
         }
     }
 
-    /// How the client of this name reaches servers.
+    /// Returns how the client of this name reaches servers.
     fn way(&self, name: u64) -> Way {
         match name {
             it if it < self.followers => Way::Routes,
@@ -108,7 +108,7 @@ impl Options {
 fn main() -> ExitCode {
     let options = Options::parse();
     let plan = options.plan();
-    // Keys of an epoch are new ones.
+    // The keys of an epoch are new ones.
     if let Some(error) = plan.epoch.is_none().then(|| clear(&plan).err()).flatten() {
         eprintln!("trial: {} doesn't answer: {error}", plan.address(0));
         return ExitCode::from(2);
@@ -133,7 +133,7 @@ fn main() -> ExitCode {
     tell(&history, &report, mover, &unread)
 }
 
-/// Writes the calls of each key of which no order is known, in the order of their beginnings.
+/// Writes the calls of each key for which no order is known, in the order of their beginnings.
 fn write_unexplained(history: &History, report: &Report, folder: &Path) -> std::io::Result<()> {
     std::fs::create_dir_all(folder)?;
     for it in report.wrong.iter().chain(&report.undecided) {
@@ -153,7 +153,7 @@ fn write_unexplained(history: &History, report: &Report, folder: &Path) -> std::
     Ok(())
 }
 
-/// Has clients call until the end, and shards move meanwhile; what they recorded.
+/// Lets clients call until the end, while shards move. Returns their record.
 fn recorded(options: &Options, plan: &TrialPlan) -> (History, Option<Mover>) {
     let mut history = History::default();
     let mover = thread::scope(|threads| {
@@ -171,7 +171,7 @@ fn recorded(options: &Options, plan: &TrialPlan) -> (History, Option<Mover>) {
     (history, mover)
 }
 
-/// Has no key be there when the clients begin.
+/// Deletes all keys before the clients begin.
 fn clear(plan: &TrialPlan) -> std::io::Result<()> {
     let mut client = RespClient::connect(plan.address(0), plan.patience)?;
     for key in 0..plan.keys {
@@ -180,7 +180,7 @@ fn clear(plan: &TrialPlan) -> std::io::Result<()> {
     Ok(())
 }
 
-/// Reads each key a last time, at any server, and returns those that weren't read. Those that aren't answered come
+/// Reads each key a last time, at any server, and returns the keys that weren't read. A key that isn't answered comes
 /// again after the others.
 fn read_all(plan: &TrialPlan, history: &mut History) -> Vec<String> {
     let (end, mut client) = (Instant::now() + LAST, None);
@@ -202,7 +202,7 @@ fn read_all(plan: &TrialPlan, history: &mut History) -> Vec<String> {
     left.into()
 }
 
-/// Reads the key at the server to which there is a connection, or at that of this turn.
+/// Reads the key at the server to which there is a connection, or at the server of this turn.
 fn read(
     plan: &TrialPlan,
     client: &mut Option<RespClient>,
@@ -232,7 +232,7 @@ fn read(
     })
 }
 
-/// Says what was done, and what is wrong.
+/// Prints how many calls were made, and which of their answers are wrong.
 fn tell(history: &History, report: &Report, mover: Option<Mover>, unread: &[String]) -> ExitCode {
     let (calls, unknown) = history.counts();
     let (moved, restarted) = mover.map_or((0, 0), |it| (it.moved, it.restarted));

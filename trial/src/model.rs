@@ -1,14 +1,14 @@
 use std::hash::Hash;
 
-/// What one thread would answer.
+/// The answers that one thread would give.
 pub trait Model {
-    /// What it holds.
+    /// Its state.
     type State: Clone + Default + Eq + Hash;
-    /// What it is asked.
+    /// Its requests.
     type Input: PartialEq;
-    /// What it answers.
+    /// Its answers.
     type Output: PartialEq;
 
-    /// What it holds after this, and answers.
+    /// Returns the state after this request, and the answer.
     fn step(state: &Self::State, input: &Self::Input) -> (Self::State, Self::Output);
 }

@@ -2,7 +2,7 @@ use crate::{RespClient, RespReply};
 use std::io;
 use std::time::{Duration, Instant};
 
-/// Who moves shards and restarts servers meanwhile.
+/// Moves shards and restarts servers while clients call.
 pub struct Mover {
     client: RespClient,
     servers: u64,
@@ -14,11 +14,11 @@ pub struct Mover {
 }
 
 impl Mover {
-    /// One for a server with so many servers and shards in it.
+    /// Returns a mover for a server process with this many servers and shards in it.
     ///
     /// # Errors
     ///
-    /// Where nobody listens there.
+    /// If nobody listens there.
     pub fn connect(address: &str, servers: u64, shards: u64) -> io::Result<Mover> {
         let client = RespClient::connect(address, Duration::from_secs(120))?;
         Ok(Mover {
@@ -30,7 +30,8 @@ impl Mover {
         })
     }
 
-    /// Moves each shard to each server in turn until then, and restarts a server after every so many moves.
+    /// Moves each shard to each server in turn until this moment, and restarts a server after each `restart_every`
+    /// moves.
     pub fn work(&mut self, restart_every: u64, end: Instant) {
         for turn in 0u64.. {
             if Instant::now() >= end {

@@ -1,40 +1,40 @@
 use std::sync::atomic::{AtomicU64, Ordering};
 use std::time::{Duration, Instant};
 
-/// What stands in keys by which clients count.
+/// The beginning of the keys in which clients count.
 pub(crate) const COUNT: &str = "count:";
-/// After so many calls without answer another key takes the place of theirs: each of them may be made at any later
-/// moment, and so multiplies the orders that are to be tried.
+/// After this many calls without an answer, another key takes the place of their key. Each of them may be made at any
+/// later moment, so each multiplies the orders that must be tried.
 const MOST_OPEN: u64 = 4;
 
-/// What all clients of a trial share.
+/// The plan that all clients of a trial share.
 #[derive(Debug)]
 pub struct TrialPlan {
-    /// Where servers listen.
+    /// The addresses at which servers listen.
     pub addresses: Vec<String>,
-    /// How many keys are called of at a time.
+    /// How many keys are called at a time.
     pub keys: u64,
-    /// After how long other keys take the place of these; none where they stay.
+    /// After how long other keys take the place of these, or none if the keys stay.
     pub epoch: Option<Duration>,
-    /// How long a reply is waited for.
+    /// How long a client waits for a reply.
     pub patience: Duration,
-    /// Moments are counted from here.
+    /// The moment from which moments are counted.
     pub start: Instant,
     /// Until when clients call.
     pub end: Instant,
-    /// What chance begins with.
+    /// The seed of chance.
     pub seed: u64,
     /// How many calls of each key had no answer.
     pub open: Box<[AtomicU64]>,
 }
 
 impl TrialPlan {
-    /// The moment now.
+    /// Returns the moment now.
     pub fn moment(&self) -> u64 {
         u64::try_from(self.start.elapsed().as_nanos()).unwrap_or(u64::MAX)
     }
 
-    /// The key of this number now.
+    /// Returns the key of this number now.
     pub fn key(&self, number: u64) -> String {
         let open = self.open.get(number as usize);
         let turn = open.map_or(0, |it| it.load(Ordering::Relaxed)) / MOST_OPEN;
@@ -56,7 +56,7 @@ impl TrialPlan {
         let _ = open.map(|it| it.fetch_add(1, Ordering::Relaxed));
     }
 
-    /// The key by which a client of this name counts its numbered requests now, which no other one writes.
+    /// Returns the key in which the client of this name counts its numbered requests now. No other client writes it.
     pub fn count(&self, name: u64) -> String {
         format!("{}{COUNT}{name}", self.front())
     }
@@ -67,7 +67,7 @@ impl TrialPlan {
             .map_or_else(|| "trial:".to_owned(), |it| format!("trial:{}:", epoch(it)))
     }
 
-    /// The address of this turn.
+    /// Returns the address of this turn.
     pub fn address(&self, turn: u64) -> &str {
         let count = self.addresses.len().max(1) as u64;
         self.addresses

@@ -16,7 +16,7 @@ pub enum KeyCommand {
 }
 
 impl KeyCommand {
-    /// Its words, with the key.
+    /// Returns its words, with the key.
     pub fn words<'a>(&'a self, key: &'a str) -> Vec<&'a str> {
         match self {
             KeyCommand::Get => vec!["GET", key],
@@ -27,7 +27,7 @@ impl KeyCommand {
         }
     }
 
-    /// Whether it may be sent under a number: it writes, and that without reading first.
+    /// Returns whether it may be sent under a number, because it writes without reading first.
     pub fn may_be_numbered(&self) -> bool {
         matches!(
             self,
@@ -35,7 +35,8 @@ impl KeyCommand {
         )
     }
 
-    /// What a reply answers to it; a refusal answers nothing, nor does a reply of another kind.
+    /// Returns the answer that a reply gives to it. A refusal answers nothing, and neither does a reply of another
+    /// kind.
     pub fn answer(&self, reply: &RespReply) -> Option<KeyAnswer> {
         match (self, reply) {
             (KeyCommand::Set(_), RespReply::Line(it)) if it == "OK" => Some(KeyAnswer::Done),
@@ -51,16 +52,16 @@ impl KeyCommand {
     }
 }
 
-/// What it answers.
+/// The answer to a command.
 #[derive(Clone, Debug, PartialEq, Eq)]
 pub enum KeyAnswer {
     /// It is done.
     Done,
-    /// The text, where there is one.
+    /// The text, if there is one.
     Text(Option<String>),
     /// A number.
     Number(i64),
-    /// The text is no number.
+    /// The text isn't a number.
     NoNumber,
 }
 

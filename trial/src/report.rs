@@ -8,36 +8,37 @@ use std::time::{Duration, Instant};
 
 /// How many keys are judged at once.
 const AT_ONCE: usize = 2;
-/// How often it is told how many keys are judged.
+/// How often the program prints how many keys are judged.
 const EVERY: Duration = Duration::from_secs(10);
 
-/// A key of which no order is known.
+/// A key for which no order is known.
 #[derive(Clone, Debug, PartialEq, Eq)]
 pub struct Unexplained {
     /// The key.
     pub key: String,
-    /// How many calls there are of it, and how many of them have no answer.
+    /// How many calls of it there are.
     pub calls: usize,
     /// How many of them have no answer.
     pub open: usize,
 }
 
-/// What a history shows.
+/// The verdict on a history.
 #[derive(Debug)]
 pub struct Report {
     /// How many keys there are.
     pub keys: usize,
     /// The keys whose answers no order of one thread explains.
     pub wrong: Vec<Unexplained>,
-    /// The keys of which the search was given up.
+    /// The keys for which the search was given up.
     pub undecided: Vec<Unexplained>,
-    /// What counts fewer numbered requests than were answered, or more than were sent.
+    /// The keys that count fewer numbered requests than were answered, or more than were sent.
     pub miscounted: Vec<String>,
-    /// The replies that answer nothing that was asked.
+    /// The replies that answer no request.
     pub garbled: Garbled,
-    /// How many clients panicked, and what they recorded is lost.
+    /// How many clients panicked. Their record is lost.
     pub lost: u64,
-    /// The longest time in which calls of a key were not answered, in nanoseconds, the key's number, and when it began.
+    /// The longest time in which calls of a key were not answered, in nanoseconds; the key's number; and when that time
+    /// began.
     pub longest: (u64, String, u64),
 }
 
@@ -45,7 +46,7 @@ pub struct Report {
 type Of<'a> = (&'a String, &'a Vec<Call<KeyCommand, KeyAnswer>>);
 
 impl Report {
-    /// That of this history: what isn't judged until then stays undecided.
+    /// Returns the report of this history. Keys that aren't judged by the end stay undecided.
     pub fn of(history: &History, end: Instant) -> Report {
         let mut report = Report {
             keys: history.calls.len(),
@@ -57,7 +58,7 @@ impl Report {
             longest: longest(history),
         };
         let mut of: Vec<Of> = history.calls.iter().collect();
-        // What takes long comes last: it isn't to take the time of others.
+        // Keys that take long come last, because they must not take the time of others.
         of.sort_by_key(|it| it.1.iter().filter(|it| it.output.is_none()).count());
         for ((key, calls), verdict) in of.iter().zip(verdicts(&of, end)) {
             let unexplained = Unexplained {
@@ -77,13 +78,13 @@ impl Report {
         report
     }
 
-    /// Whether nothing wrong was found.
+    /// Returns whether no wrong answer was found.
     pub fn is_right(&self) -> bool {
         let is_wrong = !self.wrong.is_empty() || !self.miscounted.is_empty();
         self.keys > 0 && !is_wrong && self.garbled.count + self.lost == 0
     }
 
-    /// Sees that each numbered increment was made at most once, and once where it was answered.
+    /// Checks that each numbered increment was made at most once, and exactly once if it was answered.
     fn count(&mut self, key: &str, calls: &[Call<KeyCommand, KeyAnswer>]) {
         let is_increment = |it: &&Call<KeyCommand, KeyAnswer>| it.input == KeyCommand::Incr;
         let sent = calls.iter().filter(is_increment).count();
@@ -142,7 +143,7 @@ impl fmt::Display for Report {
     }
 }
 
-/// The verdicts on these keys, in their order.
+/// Returns the verdicts on these keys, in their order.
 fn verdicts(of: &[Of], end: Instant) -> Vec<Verdict> {
     let (next, began) = (AtomicUsize::new(0), Instant::now());
     let judge_some = || {
@@ -159,7 +160,7 @@ fn verdicts(of: &[Of], end: Instant) -> Vec<Verdict> {
     let mut verdicts = vec![Verdict::Undecided; of.len()];
     thread::scope(|threads| {
         let judging: Vec<_> = (0..AT_ONCE).map(|_| threads.spawn(judge_some)).collect();
-        // Of a thread that panicked, which has said so, nothing is decided.
+        // If a thread panicked, it has said so, and its keys stay undecided.
         let judged = judging.into_iter().filter_map(|it| it.join().ok());
         judged
             .flatten()
@@ -168,14 +169,14 @@ fn verdicts(of: &[Of], end: Instant) -> Vec<Verdict> {
     verdicts
 }
 
-/// The next key that nobody judges.
+/// Returns the next key that no thread judges yet.
 fn next_of<'a>(next: &AtomicUsize, of: &[Of<'a>]) -> Option<(usize, Of<'a>)> {
     let at = next.fetch_add(1, Ordering::Relaxed);
     Some((at, *of.get(at)?))
 }
 
-/// The longest time in which calls of a key were not answered, from the start on, whose it is, and when it began; keys
-/// that took its place count as the same.
+/// Returns the longest time in which calls of a key were not answered, from the start on, with the key and when that
+/// time began. Keys that took its place count as the same key.
 fn longest(history: &History) -> (u64, String, u64) {
     let mut ends: BTreeMap<&str, Vec<u64>> = BTreeMap::new();
     for (key, calls) in history.calls.iter().filter(|(it, _)| !it.contains(COUNT)) {

@@ -5,27 +5,27 @@ use crate::{Call, Model};
 use std::collections::HashMap;
 use std::time::Instant;
 
-/// After how many steps it is looked whether it is time to give up.
+/// After how many steps the search looks whether it is time to give up.
 const STEPS: u64 = 1_024;
 
 /// A call that may come next.
 #[derive(Clone, Copy)]
 enum Candidate {
-    /// One with an answer, by its beginning among the events.
+    /// A call with an answer, by its beginning among the events.
     Answered(usize),
-    /// One without, by its number.
+    /// A call without an answer, by its number.
     Open(usize),
 }
 
-/// A call without answer.
+/// A call without an answer.
 struct Open<'a, I> {
     input: &'a I,
     began: u64,
-    /// The one before it that asks the same.
+    /// The call before it that asks the same.
     twin: Option<usize>,
 }
 
-/// What was met: the calls with an answer that are in the order, and the state after it.
+/// A point that the search met: the calls with an answer that are in the order, and the state after it.
 type Met<S> = ((usize, Box<[u64]>), S);
 
 /// A search for an order, which tries calls with an answer first.
@@ -36,10 +36,10 @@ pub(crate) struct Search<'a, M: Model> {
     state: M::State,
     taken: CallSet,
     open_taken: CallSet,
-    /// What was met, each with the fewest calls without answer that led there: no such call has to be made, so whatever
-    /// follows with more of them follows with fewer.
+    /// The points that were met, each with the fewest calls without an answer that led there. No such call must be
+    /// made, so if an order goes on from a point with more of them, it also goes on with fewer.
     seen: HashMap<Met<M::State>, Vec<Box<[u64]>>>,
-    /// How often something was met.
+    /// How many points were met, with repetitions.
     met: usize,
     /// The calls in the order, with the state before each.
     order: Vec<(Candidate, M::State)>,
@@ -49,7 +49,7 @@ impl<'a, M: Model> Search<'a, M> {
     pub(crate) fn new(calls: &'a [Call<M::Input, M::Output>]) -> Search<'a, M> {
         let (mut answered, mut without): (Vec<_>, Vec<_>) =
             calls.iter().partition(|it| it.output.is_some());
-        // In this order what is taken lies close together.
+        // In this order, calls that are taken lie close together.
         answered.sort_by_key(|it| it.began);
         without.sort_by_key(|it| it.began);
         let open: Vec<_> = without
@@ -76,7 +76,7 @@ impl<'a, M: Model> Search<'a, M> {
         }
     }
 
-    /// Searches, and gives up where it has met so much, or then.
+    /// Searches. Gives up after this many points, or at this moment.
     pub(crate) fn result(mut self, most: usize, end: Option<Instant>) -> Verdict {
         let (mut next, mut steps) = (self.first(), 0);
         while !self.events.is_empty() {
@@ -102,7 +102,7 @@ impl<'a, M: Model> Search<'a, M> {
         answered.or_else(|| self.open_from(0))
     }
 
-    /// What is tried where this one can't come next.
+    /// Returns the candidate that is tried if this one can't come next.
     fn after(&self, last: Candidate) -> Option<Candidate> {
         match last {
             Candidate::Answered(at) => self
@@ -114,7 +114,8 @@ impl<'a, M: Model> Search<'a, M> {
         }
     }
 
-    /// A call without answer from this number on that has begun, and of those that ask the same is the first.
+    /// Returns a call without an answer, from this number on, that has begun, and that is the first among those that
+    /// ask the same.
     fn open_from(&self, number: usize) -> Option<Candidate> {
         let end = self.events.first_end();
         (number..self.open.len())
@@ -126,7 +127,7 @@ impl<'a, M: Model> Search<'a, M> {
             .map(Candidate::Open)
     }
 
-    /// Has this call come next, where its answer and what was tried allow it.
+    /// Puts this call next, if its answer and the points met before allow it.
     fn take(&mut self, next: Candidate) -> bool {
         let (input, output) = match next {
             Candidate::Answered(at) => {
@@ -137,7 +138,7 @@ impl<'a, M: Model> Search<'a, M> {
         };
         let (state, found) = M::step(&self.state, input);
         if output.map_or(state == self.state, |it| *it != found) {
-            // It was answered otherwise, or without an answer it does nothing.
+            // It was answered with something else, or it has no answer and does nothing.
             return false;
         }
         if self.is_tried_otherwise(next, (input, output), &state) {
@@ -156,7 +157,8 @@ impl<'a, M: Model> Search<'a, M> {
         true
     }
 
-    /// Notes what the order has come to, with this state; whether it wasn't met with as few calls without answer.
+    /// Notes the point of the order, with this state. Returns whether the point is new, or was met only with more calls
+    /// without an answer.
     fn is_new(&mut self, state: &M::State) -> bool {
         let met = self
             .seen
@@ -172,9 +174,9 @@ impl<'a, M: Model> Search<'a, M> {
         true
     }
 
-    /// Whether the last call of the order has no answer, and this one comes to the same state without it, which leaves
-    /// more, or before it: that is tried too. So such a call comes as late as it may, and of several that make no
-    /// difference to each other the first comes first.
+    /// Returns whether the last call of the order has no answer, and this one comes to the same state without it, which
+    /// leaves more calls, or before it: then that order is tried too. So such a call comes as late as it may, and if
+    /// several calls make no difference to each other, the first of them comes first.
     fn is_tried_otherwise(
         &self,
         next: Candidate,
@@ -219,7 +221,7 @@ impl<'a, M: Model> Search<'a, M> {
     }
 }
 
-/// Whether all of these calls are among the others.
+/// Returns whether all of these calls are among the others.
 fn is_part(some: &[u64], others: &[u64]) -> bool {
     some.iter().zip(others).all(|(it, other)| it & !other == 0)
 }

@@ -1,4 +1,5 @@
-//! The program beside a server of this file, one reply of which is wrong: whatever its kind, it is found.
+//! Runs the program beside a server of this file, which gives one wrong reply. The program must find it, whatever its
+//! kind.
 use durkenzo_trial::{KeyAnswer, KeyCommand, Model, Register};
 use std::collections::HashMap;
 use std::io::{BufRead, BufReader, Write};
@@ -8,23 +9,23 @@ use std::sync::atomic::{AtomicU64, Ordering};
 use std::sync::{Arc, Mutex};
 use std::thread;
 
-/// How many keys there are, each of which is cleared first.
+/// How many keys there are. Each is cleared first.
 const KEYS: u64 = 4;
 const TWO: [&str; 2] = ["--clients", "2"];
 
-/// A command of this name isn't done, but replied to so.
+/// A command of this name isn't done, but gets this reply.
 #[derive(Clone, Copy)]
 struct Lie {
     name: &'static str,
     reply: &'static str,
-    /// The connections before this one hear none.
+    /// The connections before this one hear no lie.
     from: u64,
-    /// How many commands of this name are done before.
+    /// How many commands of this name are done before the lie.
     after: u64,
 }
 
 impl Lie {
-    /// One that comes once the keys are cleared.
+    /// Returns a lie that comes once the keys are cleared.
     fn new(name: &'static str, reply: &'static str) -> Lie {
         Lie {
             name,
@@ -43,7 +44,7 @@ struct Server {
 }
 
 impl Server {
-    /// Begins one, and gives its address.
+    /// Starts a server, and returns its address.
     fn begin(lie: Lie) -> String {
         let listener = TcpListener::bind("127.0.0.1:0").expect("a port");
         let address = listener.local_addr().expect("its address").to_string();
@@ -58,7 +59,7 @@ impl Server {
         address
     }
 
-    /// Replies to what comes until the client is gone.
+    /// Replies to commands until the client is gone.
     fn serve(&self, connection: u64, mut stream: &TcpStream) {
         let mut from = BufReader::new(stream);
         while let Some(words) = words(&mut from) {
@@ -106,7 +107,7 @@ impl Server {
     }
 }
 
-/// The words of the next command.
+/// Returns the words of the next command.
 fn words(from: &mut impl BufRead) -> Option<Vec<String>> {
     (0..number(from)?).map(|_| word(from)).collect()
 }
@@ -118,14 +119,14 @@ fn word(from: &mut impl BufRead) -> Option<String> {
     String::from_utf8(bytes).ok()
 }
 
-/// The number behind the first byte of a line.
+/// Returns the number behind the first byte of a line.
 fn number(from: &mut impl BufRead) -> Option<usize> {
     let mut line = String::new();
     from.read_line(&mut line).ok()?;
     line.trim_end().get(1..)?.parse().ok()
 }
 
-/// What the program says beside a server that lies so, and its exit status.
+/// Returns the output of the program beside a server that lies in this way, and its exit status.
 fn told(lie: Lie, options: &[&str]) -> (String, Option<i32>) {
     let (address, keys) = (Server::begin(lie), KEYS.to_string());
     let words = [
@@ -148,7 +149,7 @@ fn told(lie: Lie, options: &[&str]) -> (String, Option<i32>) {
     )
 }
 
-/// Has each of these lies be found, by itself: what was answered is explained without it.
+/// Checks that the program finds each of these lies by itself: the answers without it are explained.
 fn find_each(lies: &[Lie], options: &[&str]) {
     thread::scope(|threads| {
         for lie in lies {
@@ -206,7 +207,7 @@ fn finds_what_is_no_reply() {
     find_each(&lies, &TWO);
 }
 
-/// No client panics of a text that is longer than memory.
+/// No client panics because of a text that is longer than memory.
 #[test]
 fn finds_a_text_longer_than_any() {
     let lies = [
@@ -223,7 +224,7 @@ fn finds_answers_of_another_kind_to_numbered_requests() {
     find_each(&[Lie::new("INCR", "+OK\r\n")], &numbered);
 }
 
-/// The first connections are those of the client and of who moves shards.
+/// The first connections belong to the client and to the mover.
 #[test]
 fn finds_answers_of_another_kind_to_the_last_reads() {
     let lie = Lie {

@@ -1,4 +1,4 @@
-//! The checker takes what one thread could have answered, and finds what it couldn't.
+//! The checker accepts answers that one thread could have given, and finds answers that it couldn't.
 use durkenzo_trial::{is_linearizable, Call, KeyAnswer, KeyCommand, Model, Register};
 
 fn call(
@@ -54,7 +54,7 @@ fn holds(calls: &[Call<KeyCommand, KeyAnswer>]) -> bool {
 fn takes_what_one_thread_answers() {
     assert!(holds(&[]));
     assert!(holds(&[set(0, 1, "a"), get(2, 3, Some("a"))]));
-    // They overlap: either order may be.
+    // They overlap, so either order is possible.
     assert!(holds(&[
         set(0, 9, "a"),
         get(1, 2, None),
@@ -121,7 +121,7 @@ fn finds_a_read_of_the_past() {
         set(2, 3, "b"),
         get(4, 5, Some("a"))
     ]));
-    // Two reads that disagree on what came first.
+    // Two reads that disagree on which write came first.
     assert!(!holds(&[
         set(0, 9, "a"),
         set(0, 9, "b"),
@@ -145,8 +145,8 @@ fn finds_two_writers_at_once() {
     ]));
 }
 
-/// Histories that one thread made, with each call's beginning and end spread around it; one answer changed in each
-/// second one.
+/// Histories that one thread made, with each call's beginning and end spread around it. In every second one, one answer
+/// is changed.
 #[test]
 fn tells_histories_by_chance() {
     for seed in 0..400u64 {

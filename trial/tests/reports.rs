@@ -1,4 +1,4 @@
-//! What a report says of histories: counts of numbered requests, and the longest time without an answer.
+//! The reports of histories: counts of numbered requests, and the longest time without an answer.
 use durkenzo_trial::{Call, History, KeyAnswer, KeyCommand, Report};
 use std::time::{Duration, Instant};
 
@@ -42,7 +42,7 @@ fn finds_numbered_requests_that_were_made_twice_or_never() {
             get(6, last),
         ]
     };
-    // The one without answer may be made at last, or never.
+    // The call without an answer may be made last, or never.
     for last in ["2", "3"] {
         assert!(report(key, of(last)).is_right(), "{last}");
     }
@@ -54,7 +54,7 @@ fn finds_numbered_requests_that_were_made_twice_or_never() {
             "{last}"
         );
     }
-    // Of other keys nothing is counted.
+    // Nothing is counted for other keys.
     assert!(report("trial:0:3", of("4")).miscounted.is_empty());
 }
 

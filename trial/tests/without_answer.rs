@@ -4,7 +4,7 @@ use std::time::{Duration, Instant};
 
 const SEED: u64 = 0x9e37_79b9_7f4a_7c15;
 
-/// Numbers that a seed gives.
+/// Numbers from a seed.
 struct Chance(u64);
 
 impl Chance {
@@ -27,7 +27,8 @@ fn command(chance: &mut Chance, at: u64) -> KeyCommand {
     }
 }
 
-/// A history that one thread made, some calls without answer; of these some are made long after, and some never.
+/// Returns a history that one thread made, with some calls without an answer. Some of these are made long after, and
+/// some never.
 fn history(
     chance: &mut Chance,
     count: u64,
@@ -51,7 +52,7 @@ fn history(
             });
             continue;
         }
-        // A third of those without answer is never made.
+        // A third of the calls without an answer is never made.
         waiting.retain(|(due, input)| {
             let is_due = *due <= moment;
             if is_due && chance.below(3) > 0 {
@@ -122,7 +123,7 @@ fn takes_long_histories() {
     }
 }
 
-/// Of each kind of wrong answer one in a long history of which a part has no answer.
+/// One wrong answer of each kind, in a long history of which a part has no answer.
 #[test]
 fn finds_wrong_answers_in_long_histories() {
     let set = |at: u64, text: &str| answered(at, KeyCommand::Set(text.to_owned()), KeyAnswer::Done);
@@ -159,7 +160,7 @@ fn finds_wrong_answers_in_long_histories() {
                 Verdict::Linearizable,
                 "{name}, seed {seed}"
             );
-            // Those without answer write nothing that is read here.
+            // The calls without an answer write nothing that is read here.
             calls.retain(|it| {
                 it.output.is_some() || !matches!(it.input, KeyCommand::Incr | KeyCommand::Set(_))
             });
@@ -193,7 +194,7 @@ fn open(at: u64, text: &str) -> Call<KeyCommand, KeyAnswer> {
     }
 }
 
-/// A write without answer may be made at any later moment, once.
+/// A write without an answer may be made at any later moment, once.
 #[test]
 fn takes_a_write_that_comes_late() {
     let text = |it: &str| KeyAnswer::Text(Some(it.to_owned()));
@@ -206,7 +207,7 @@ fn takes_a_write_that_comes_late() {
     assert_eq!(judge::<Register>(&calls), Verdict::Linearizable);
     let again = [calls.clone(), vec![five(5)]].concat();
     assert_eq!(judge::<Register>(&again), Verdict::Wrong);
-    // An increment without answer counts once at most.
+    // An increment without an answer counts at most once.
     let incr = Call {
         input: KeyCommand::Incr,
         output: None,
@@ -232,8 +233,8 @@ fn takes_a_write_that_comes_late() {
     );
 }
 
-/// As many calls as clients make of one key in a trial, of which as many have no answer as its key may have: an order
-/// is found, and a read of the past by the last of them is found too, in seconds.
+/// Takes as many calls as clients make of one key in a trial; as many have no answer as its key may have. Finds an
+/// order in seconds, and also finds a read of the past by the last of them.
 #[test]
 fn decides_what_a_key_of_a_trial_has() {
     let in_time = || Instant::now() + Duration::from_secs(120);
@@ -268,7 +269,7 @@ fn decides_what_a_key_of_a_trial_has() {
     }
 }
 
-/// Calls without answer that make no difference to what follows are tried once, and not at each place.
+/// Calls without an answer that make no difference to later ones are tried once, and not at each place.
 #[test]
 fn decides_where_calls_without_answer_make_no_difference() {
     let mut calls = vec![answered(
@@ -290,7 +291,7 @@ fn decides_where_calls_without_answer_make_no_difference() {
     }
 }
 
-/// What has more orders than can be tried is given up when the time is over.
+/// If a history has more orders than can be tried, the search is given up when the time is over.
 #[test]
 fn gives_up_in_time() {
     let append = |at: u64| Call {

@@ -68,7 +68,7 @@ impl Target for DumpBytes {
         vec![bytes]
     }
 
-    /// Else all ends at the checksum.
+    /// Spoils the input, and then mostly mends its checksum, because otherwise all inputs would fail there.
     fn spoil(&self, input: &mut Vec<u8>, other: &[u8], chance: &mut Chance) {
         mutator::spoil(input, other, self.words(), chance);
         if chance.below(4) > 0 {
@@ -86,7 +86,7 @@ impl DumpBytes {
         }
     }
 
-    /// Writes it anew, and gives the bytes.
+    /// Writes it anew, and returns the bytes.
     fn spelled(&self, loaded: &mut Loaded) -> Result<Vec<u8>, DumpFault> {
         let mut file = DumpFile::create(&self.folder, "spelled", &self.head)?;
         for (head, body) in loaded.heads.iter().zip(&mut loaded.bodies) {
@@ -101,16 +101,17 @@ impl DumpBytes {
     }
 }
 
-/// Has the shards of a board stand so, where they can.
+/// Restores the shards of a board to these stands, if they can have them.
 fn restored(loaded: Loaded) {
     let Loaded { heads, bodies } = loaded;
     if let Ok(board) = Board::builder().servers(SERVERS).build(bodies) {
-        // What can't stand so is refused by name.
+        // A stand that is impossible is refused by name.
         let _ = restore(&board.control(), &heads);
     }
 }
 
-/// Has the last line tell the checksum of what stands before it, and as many shards and pairs as lines say.
+/// Makes the last line state the checksum of the lines before it, and the number of shards and pairs that the lines
+/// have.
 fn mend(input: &mut Vec<u8>) {
     let body = input.strip_suffix(b"\n").unwrap_or(input);
     let start = body

@@ -14,7 +14,7 @@ use wire::{
     Granted, KeepAliveResponse, RangeResult, Streamed, TransactionResult, WatchRequest, WatchResult,
 };
 
-/// What etcd's gateway answers.
+/// The answers of etcd's gateway.
 pub struct EtcdAnswers;
 
 impl Target for EtcdAnswers {
@@ -44,7 +44,7 @@ impl Target for EtcdAnswers {
                 "it says nothing".to_owned()
             })?;
         }
-        // Numbers alone.
+        // These are only numbers.
         let _ = serde_json::from_slice::<Granted>(input).map(|it| it.id);
         let _ = serde_json::from_slice::<Streamed<KeepAliveResponse>>(input);
         Ok(())
@@ -91,7 +91,7 @@ impl Target for EtcdAnswers {
     }
 }
 
-/// Its pairs are the same where they are spelled anew.
+/// Its pairs must be the same if they are written anew.
 fn of_transaction(outcome: Outcome) -> Result<(), String> {
     let Outcome::Lost(reading) = outcome else {
         return Ok(());
@@ -105,7 +105,7 @@ fn of_transaction(outcome: Outcome) -> Result<(), String> {
 }
 
 fn of_range(revision: Revision, pairs: Vec<Pair>) -> Result<(), String> {
-    // From there on it would be watched.
+    // It would be watched from there on.
     WatchRequest::from(b"record/", revision);
     let again: RangeResult = read(&range(revision, &pairs))?;
     let found: Vec<Pair> = again.pairs.into_iter().map(Pair::from).collect();

@@ -3,10 +3,10 @@ use crate::mutator;
 use crate::target::{holds, Target};
 use durkenzo_fleet::respelled;
 
-/// How many bytes stand before what the length of a frame counts.
+/// How many bytes come before those that the length of a frame counts.
 const LENGTH: usize = 4;
 
-/// What clients and servers of a fleet send each other behind their greeting: a request, or a response.
+/// The messages between clients and servers of a fleet behind their greeting: a request, or a response.
 pub struct FleetFrames;
 
 impl Target for FleetFrames {
@@ -46,7 +46,7 @@ impl Target for FleetFrames {
         all.map(framed).into()
     }
 
-    /// Else all ends at the length.
+    /// Spoils the input, and then mostly mends its length, because otherwise all inputs would fail there.
     fn spoil(&self, input: &mut Vec<u8>, other: &[u8], chance: &mut Chance) {
         mutator::spoil(input, other, self.words(), chance);
         if chance.below(4) > 0 {

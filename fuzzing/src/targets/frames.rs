@@ -10,10 +10,10 @@ use durkenzo_server::keyspace::{Keyspace, Rule};
 use durkenzo_server::works::WireReason;
 use std::sync::Arc;
 
-/// How many bytes stand before what the length of a frame counts.
+/// How many bytes come before those that the length of a frame counts.
 const LENGTH: usize = 4;
 
-/// What a process sends another behind its greeting: frames one after another, and the works in them.
+/// The messages between processes behind their greeting: frames one after another, and the works in them.
 pub struct Frames {
     place: Option<(Keyspace, Arc<Cluster>)>,
 }
@@ -70,7 +70,7 @@ impl Target for Frames {
         seeds
     }
 
-    /// Else all ends at the length.
+    /// Spoils the input, and then mostly mends its length, because otherwise all inputs would fail there.
     fn spoil(&self, input: &mut Vec<u8>, other: &[u8], chance: &mut Chance) {
         mutator::spoil(input, other, self.words(), chance);
         if chance.below(4) > 0 {
@@ -83,7 +83,7 @@ impl Target for Frames {
 }
 
 impl Frames {
-    /// Over two shards.
+    /// Returns the target, for two shards.
     pub fn new() -> Frames {
         let rule = Rule::Bounds(vec![Vec::new(), b"m".to_vec()]);
         let keyspace = Keyspace::new(&rule).ok();
@@ -93,7 +93,7 @@ impl Frames {
         }
     }
 
-    /// A work that is read is read again where it is spelled anew, and is the same then.
+    /// If a work is read and written anew, it must be read again as the same.
     fn work(&self, bytes: &[u8], shard: u16) -> Result<(), String> {
         let Some((keyspace, cluster)) = &self.place else {
             return Err("there is no cluster".to_owned());
@@ -113,7 +113,7 @@ impl Frames {
     }
 }
 
-/// A frame of this kind.
+/// Returns a frame of this kind.
 fn framed(kind: u8, rest: &[u8]) -> Vec<u8> {
     let length = (9 + rest.len()) as u32;
     [
@@ -125,7 +125,7 @@ fn framed(kind: u8, rest: &[u8]) -> Vec<u8> {
     .concat()
 }
 
-/// A frame of these works for shard 0, which a client gave to who sends it.
+/// Returns a frame of these works for shard 0, which a client gave to the sender.
 fn works(works: &[&[u8]]) -> Vec<u8> {
     let mut rest = vec![0; 2 + 2 + 2 + 1 + 8 + 4];
     rest.extend((works.len() as u16).to_be_bytes());

@@ -3,7 +3,7 @@ use crate::mutator;
 use crate::target::{holds, Target};
 use durkenzo_control::links::Greeting;
 
-/// How many bytes stand before what the length of a greeting counts, and where that stands.
+/// How many bytes come before those that the length of a greeting counts, and the place of the length.
 const HEAD: usize = 9;
 const LENGTH: usize = 5;
 
@@ -26,7 +26,7 @@ impl Target for Greetings {
         greeting.write(version, &mut spelled);
         let again = Greeting::read(&spelled);
         let is_same = match (&greeting, &again) {
-            // Why is a text for people, which is cut, and in which other bytes are marked.
+            // The reason is a text for people. It is cut, and other bytes in it are marked.
             (Greeting::Refusal(_), Ok(Some((Greeting::Refusal(_), _, length)))) => {
                 *length == spelled.len()
             }
@@ -43,7 +43,7 @@ impl Target for Greetings {
 
     fn seeds(&mut self) -> Vec<Vec<u8>> {
         let identity = [0, 3, 1, 2, 3, 4, 5, 6, 7, 8, 0, 0, 0, 0, 0, 0, 0, 9];
-        // From the second version on the table of commands stands behind it.
+        // From the second version on, the table of commands comes behind it.
         let newer = [&identity[..], &[0, 7]].concat();
         let seeds = [(1, &identity[..]), (2, &newer[..])].map(|(version, identity)| {
             [
@@ -60,7 +60,7 @@ impl Target for Greetings {
         seeds.concat()
     }
 
-    /// Else all ends at the length.
+    /// Spoils the input, and then mostly mends its length, because otherwise all inputs would fail there.
     fn spoil(&self, input: &mut Vec<u8>, other: &[u8], chance: &mut Chance) {
         mutator::spoil(input, other, self.words(), chance);
         let length = input.len().saturating_sub(HEAD) as u32;
@@ -70,7 +70,7 @@ impl Target for Greetings {
     }
 }
 
-/// A greeting of this version and kind.
+/// Returns a greeting of this version and kind.
 fn greeted(version: u8, kind: u8, rest: &[u8]) -> Vec<u8> {
     let length = (1 + rest.len()) as u32;
     [

@@ -9,14 +9,14 @@ const LIMITS: Limits = Limits {
     waiting: 64,
     clients: 64,
 };
-/// Keys of which both servers are asked.
+/// Keys for which both servers are asked.
 const KEYS: [&[u8]; 3] = [b"a", b"b", b"n"];
-/// A client of whom no batch tells.
+/// A client that no batch mentions.
 const READER: u64 = 1 << 50;
-/// What a server may say of bytes that it can't follow.
+/// The faults that a server may report for bytes that it can't follow.
 const FAULTS: [Code; 3] = [Code::BAD_BYTES, Code::BAD_LOG, Code::MISSING];
 
-/// What lies at the keys of a shard's log: its record, its head, the parts of its base, and batches.
+/// The values at the keys of a shard's log: its record, its head, the parts of its base, and batches.
 pub struct Log;
 
 impl Target for Log {
@@ -58,7 +58,7 @@ fn server_of(
     Ok(server)
 }
 
-/// A log that can be followed can be followed by its base, to the same.
+/// If a log can be followed, its base can be followed too, to the same state.
 fn followed(mut server: Server, record: &[u8], named: Head) -> Result<(), String> {
     let told = |it: Code| format!("a server that follows it answers {it:?}");
     let Some(base) = server.base().map_err(told)? else {
@@ -78,7 +78,7 @@ fn followed(mut server: Server, record: &[u8], named: Head) -> Result<(), String
     })
 }
 
-/// What the keys hold, where the server may say so.
+/// Returns the values of the keys, if the server may say them.
 fn read(server: &mut Server) -> Result<Vec<Told>, Code> {
     for (client, key) in (READER..).zip(KEYS) {
         let request = [&[1, key.len() as u8], key].concat();
@@ -97,7 +97,7 @@ fn read(server: &mut Server) -> Result<Vec<Told>, Code> {
     Ok(server.made(9)?.1)
 }
 
-/// Logs of a server that wrote some: of two batches, of a base alone, and of a base with a batch behind it.
+/// Returns logs of a server that wrote some: of two batches, of only a base, and of a base with a batch behind it.
 fn seeds() -> Result<Vec<Vec<u8>>, Code> {
     let word: u64 = 1 << 61 | 1 << 48 | 1;
     let record = [&[1][..], &word.to_be_bytes(), &7u64.to_be_bytes()].concat();
@@ -127,7 +127,7 @@ fn seeds() -> Result<Vec<Vec<u8>>, Code> {
     ])
 }
 
-/// The head and the batch of these requests, which are made.
+/// Returns the head and the batch of these requests, which are made.
 fn written(
     server: &mut Server,
     number: u64,

@@ -5,10 +5,10 @@ mod byte_set;
 #[path = "../../../server/src/command/glob.rs"]
 mod glob;
 
-/// The longest pattern and text that are tried: their product is the time.
+/// The longest pattern and text that are tried: the time is their product.
 const LONGEST: usize = 4_096;
 
-/// Patterns of `SCAN`: what stands before the first line's end, of the text behind it.
+/// Patterns of `SCAN`: the bytes before the first line's end are the pattern, and the bytes behind it the text.
 pub struct ScanPatterns;
 
 impl Target for ScanPatterns {
@@ -36,7 +36,8 @@ impl Target for ScanPatterns {
     }
 }
 
-/// Whether the text is of the pattern; a pattern that has to be refused as too long, and is, has all texts.
+/// Returns whether the text matches the pattern; if a pattern must be refused as too long, and is, it matches all
+/// texts.
 fn is_match(pattern: &[u8], text: &[u8]) -> Result<bool, String> {
     let written = glob::Pattern::new(pattern);
     holds(

@@ -1,7 +1,7 @@
 use crate::chance::Chance;
 use crate::mutator;
 
-/// The pieces of an input, each behind its length in two bytes; the last may be cut.
+/// Returns the pieces of an input, each behind its length in two bytes; the last may be cut.
 pub fn of(input: &[u8]) -> Vec<&[u8]> {
     let (mut rest, mut pieces) = (input, Vec::new());
     while let [high, low, after @ ..] = rest {
@@ -13,7 +13,7 @@ pub fn of(input: &[u8]) -> Vec<&[u8]> {
     pieces
 }
 
-/// The input of these pieces.
+/// Returns the input of these pieces.
 pub fn spelled<T: AsRef<[u8]>>(pieces: &[T]) -> Vec<u8> {
     let each = pieces.iter().flat_map(|it| {
         let bytes = &it.as_ref()[..it.as_ref().len().min(usize::from(u16::MAX))];

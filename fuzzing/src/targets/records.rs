@@ -13,10 +13,10 @@ const SETTINGS: &str = concat!(
 /// The revisions of the record and of the key of commands.
 const STOOD: u64 = 5;
 const PLACED: u64 = 7;
-/// That records or states can't be those of a store.
+/// The faults of records or states that can't be a store's.
 const FAULTS: [u32; 3] = [93, 94, 95];
 
-/// What lies at the keys of a shard's record, of servers' states and of a log's head.
+/// The values at the keys of a shard's record, of servers' states and of a log's head.
 pub struct StoreValues;
 
 impl Target for StoreValues {
@@ -65,7 +65,7 @@ impl Target for StoreValues {
     }
 }
 
-/// A head that is one is spelled so.
+/// If bytes are a head, it is written as these bytes.
 fn of_head(bytes: &[u8]) -> Result<(), String> {
     let Ok(head) = Head::of(bytes) else {
         return Ok(());
@@ -75,7 +75,7 @@ fn of_head(bytes: &[u8]) -> Result<(), String> {
     holds(spelled == bytes, || format!("{head:?} has other bytes"))
 }
 
-/// The record that was read is the one that lies there, and what comes next can be asked.
+/// The record that was read must be the one that lies there, and the next step can be asked for.
 fn accepted(director: &mut Director, record: &[u8]) -> Result<(), String> {
     let (word, stood) = director.record_of(0).map_err(|it| it.to_string())?;
     let is_same = record.get(1..9) == Some(&word.to_be_bytes()) && stood == STOOD;

@@ -1,7 +1,7 @@
 use crate::target::{holds, Target};
 use durkenzo_server::resp::{number, parse, Arguments, OwnedCommand, ReadAway, Unparsed};
 
-/// What clients send: commands as arrays and as lines, and numbers in them.
+/// The messages of clients: commands as arrays and as lines, and numbers in them.
 #[derive(Default)]
 pub struct Resp {
     arguments: Arguments,
@@ -46,7 +46,7 @@ impl Target for Resp {
 }
 
 impl Resp {
-    /// Of a whole command: it reads the same where it is spelled anew, and isn't one without its last byte.
+    /// A whole command must read the same if it is written anew, and must not be one without its last byte.
     fn command(&mut self, bytes: &[u8]) -> Result<(), String> {
         let words: Vec<Vec<u8>> = self.words_of(bytes);
         for word in &words {
@@ -79,7 +79,7 @@ impl Resp {
     }
 }
 
-/// Of a command that is too large: in two pieces as much of it is forgotten as in one.
+/// If a command is too large, as many of its bytes are skipped in two pieces as in one.
 fn read_away(input: &[u8]) -> Result<(), String> {
     let whole = ReadAway::default().take(input);
     let (mut away, half) = (ReadAway::default(), input.len() / 2);

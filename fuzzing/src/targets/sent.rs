@@ -34,7 +34,7 @@ impl Target for SentBytes {
 }
 
 impl SentBytes {
-    /// Over a service whose shards server 1 owns.
+    /// Returns the target, over a service whose shards server 1 owns.
     pub fn new() -> SentBytes {
         let pass = Layout::new(["", "g", "n"]).ok().and_then(|layout| {
             let service = Service::builder(layout).servers(2).build().ok()?;
@@ -47,7 +47,7 @@ impl SentBytes {
     }
 }
 
-/// A word that a record has it has again.
+/// If a record has a word, its word is that word again.
 fn of_word(word: u64) -> Result<(), String> {
     let Some(record) = word::record(word) else {
         return Ok(());
@@ -58,7 +58,7 @@ fn of_word(word: u64) -> Result<(), String> {
     })
 }
 
-/// Where a pass of a service takes it, the envelope has the same fields, and is served or given back.
+/// If a pass of a service takes it, the envelope must have the same fields, and is served or given back.
 fn received(pass: &mut ServicePass, sent: Sent, key: &[u8]) -> Result<(), String> {
     let Ok(mut envelope) = pass.received(&sent, &Request::Get(key)) else {
         return Ok(());

@@ -19,10 +19,10 @@ const NAMES: [&str; 13] = [
     "BadWorkers",
     "BadDomains",
 ];
-/// Keys of which it is asked where they are.
+/// Keys whose shards are asked for.
 const KEYS: [&[u8]; 5] = [b"", b"a", b"m", b"zebra", b"\xff\x00"];
 
-/// A line of settings: as a board reads it, as a store's control does, and as the server does for itself.
+/// A line of settings, as a board reads it, as a store's control does, and as the server does for itself.
 pub struct SettingsLine;
 
 impl Target for SettingsLine {
@@ -66,7 +66,7 @@ fn name(fault: SettingsFault) -> String {
     format!("{fault:?}")
 }
 
-/// What a control accepted the others accept too, as the same.
+/// If a control accepted settings, the others must accept them too, as the same.
 fn accepted(input: &[u8], mut director: Director) -> Result<(), String> {
     let shards = director.shards();
     let opened = Board::by_settings(input, vec![(); usize::from(shards)]);

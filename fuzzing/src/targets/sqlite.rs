@@ -17,7 +17,7 @@ impl Target for SqliteFile {
         let Ok(store) = Embedded::in_folder(&folder, Sync::No) else {
             return Ok(());
         };
-        // What can't be read or written is told.
+        // If bytes can't be read or written, the store says so.
         let _ = store.read_all(b"");
         let put = store.make(Transaction::new().put("fuzzing", "value"));
         if matches!(put, Ok(Outcome::Made(_))) {
@@ -51,7 +51,7 @@ impl SqliteFile {
         SqliteFile { room }
     }
 
-    /// A folder of this name with nothing in it.
+    /// Returns an empty folder of this name.
     fn emptied(&self, name: &str) -> std::io::Result<PathBuf> {
         let folder = self.room.join(name);
         if folder.is_dir() {
@@ -61,7 +61,7 @@ impl SqliteFile {
         Ok(folder)
     }
 
-    /// A small file, whole.
+    /// Returns a small file, whole.
     fn seed(&self) -> Result<Vec<u8>, Box<dyn std::error::Error>> {
         let folder = self.emptied("whole")?;
         let store = Embedded::in_folder(&folder, Sync::Always)?;

@@ -5,37 +5,38 @@ use durkenzo_store::{KeyChange, LeaseId, Pair, Revision};
 use std::collections::{BTreeMap, BTreeSet};
 use std::time::Duration;
 
-/// The revision of an etcd in which nothing was written.
+/// The revision of an etcd in which nothing was written yet.
 const FIRST: u64 = 1;
 
-/// What a key has held since a revision: nothing, if that deleted it.
+/// The value of a key from a revision on. If that revision deleted the key, there is no value.
 struct KeyVersion {
     since: u64,
-    /// The revision that created the key; 0 if this one deleted it.
+    /// The revision that created the key. It is 0 if the revision `since` deleted the key.
     created: u64,
     value: Option<Vec<u8>>,
     lease: Option<LeaseId>,
 }
 
-/// A lease, when it ends unless it is kept, and its keys.
+/// A lease, with its keys. It ends at `end`, unless a client keeps it before.
 struct KeptLease {
     length: Duration,
     end: Duration,
     keys: BTreeSet<Vec<u8>>,
 }
 
-/// What a watch hears from a revision on.
+/// The changes that a watch hears from a revision on.
 #[derive(Clone, Debug, PartialEq, Eq)]
 pub enum Heard {
-    /// Changes in their order.
+    /// The changes, in their order.
     Changes(Vec<KeyChange>),
-    /// It ends, as what happened at its revision is let go up to this one.
+    /// The watch ends, because the revision that it asked for was let go. History is compacted up to this revision.
     Compacted(u64),
 }
 
-/// The state on which all members agree: keys with revisions, and leases.
+/// The state on which all members agree: keys with their revisions, and leases.
 ///
-/// What is compacted isn't told to clients any more. It stays here all the same, for those who judge a schedule.
+/// After a compaction, clients aren't told of the compacted changes any more. The changes stay here all the same,
+/// because a schedule is judged by them.
 pub struct Keyspace {
     revision: u64,
     compacted: u64,
@@ -65,12 +66,12 @@ impl Keyspace {
         self.revision
     }
 
-    /// Returns the revision up to which history is let go.
+    /// Returns the revision up to which history was compacted.
     pub fn compacted(&self) -> u64 {
         self.compacted
     }
 
-    /// Has it take no puts and grant no leases any more, or again.
+    /// Sets whether the store is full. If it is full, it takes no puts and grants no leases.
     pub fn set_full(&mut self, is_full: bool) {
         self.is_full = is_full;
     }
@@ -82,7 +83,7 @@ impl Keyspace {
         found.map_or(&[], Vec::as_slice)
     }
 
-    /// Returns what the key held at this revision.
+    /// Returns the pair of the key at this revision. Returns `None` if the key had no value then.
     pub fn pair_at(&self, key: &[u8], revision: u64) -> Option<Pair> {
         let held = self.held.get(key)?.iter();
         let last = held.rev().find(|it| it.since <= revision)?;
@@ -94,7 +95,7 @@ impl Keyspace {
         })
     }
 
-    /// Returns what the key held at these revisions, and between them.
+    /// Returns the values that the key had from one revision to the other, in their order. `None` stands for no value.
     pub fn between(&self, key: &[u8], since: u64, until: u64) -> Vec<Option<&[u8]>> {
         let versions = self.held.get(key).map_or(&[][..], Vec::as_slice);
         let first = versions.iter().rposition(|it| it.since <= since);
@@ -108,13 +109,13 @@ impl Keyspace {
         values
     }
 
-    /// Returns all keys that hold something from this one on.
+    /// Returns all keys from this one on that have a value now.
     pub fn keys_from(&self, from: &[u8]) -> impl Iterator<Item = &[u8]> {
         let keys = self.held.range(from.to_vec()..).map(|it| it.0.as_slice());
         keys.filter(|it| self.revision_of(it) > 0)
     }
 
-    /// Returns what keys held last that begin so and hold nothing any more.
+    /// Returns the last pair of each key with this prefix that has no value any more.
     pub fn gone_of(&self, prefix: &[u8]) -> Vec<Pair> {
         let versions = self.held.iter().filter(|it| it.0.starts_with(prefix));
         let gone = versions.filter(|it| self.revision_of(it.0) == 0);
@@ -122,18 +123,18 @@ impl Keyspace {
         last.collect()
     }
 
-    /// Returns the revision that wrote the key last; 0 if it holds nothing.
+    /// Returns the revision that last wrote the key. Returns 0 if the key has no value.
     pub fn revision_of(&self, key: &[u8]) -> u64 {
         let last = self.held.get(key).and_then(|it| it.last());
         let there = last.filter(|it| it.value.is_some());
         there.map_or(0, |it| it.since)
     }
 
-    /// Answers a range.
+    /// Returns the pairs of a range.
     ///
     /// # Errors
     ///
-    /// If its revision is let go, or isn't there yet.
+    /// Fails if the revision was compacted, or doesn't exist yet.
     pub fn range(&self, asked: &RangeQuery) -> Result<RangeReply, EtcdRefusal> {
         self.may_read(asked)?;
         Ok(self.found(asked))
@@ -171,8 +172,8 @@ impl Keyspace {
     ///
     /// # Errors
     ///
-    /// If it is malformed, has no room, reads what isn't there any more, or names a lease that has ended. Nothing is
-    /// made then.
+    /// Fails if the transaction is malformed or has no room. It also fails if it reads a revision that was compacted or
+    /// doesn't exist yet, or puts a key under a lease that has ended. Nothing is made then.
     pub fn make(&mut self, asked: &EtcdTransaction) -> Result<TransactionReply, EtcdRefusal> {
         are_written_once(&asked.success)?;
         are_written_once(&asked.failure)?;
@@ -207,7 +208,8 @@ impl Keyspace {
         }
     }
 
-    /// Whether an operation may be done once all puts may.
+    /// Checks whether an operation may be done. All puts of the transaction must have passed `may_put` before, because
+    /// etcd checks them first.
     fn may_do(&self, operation: &Operation) -> Result<(), EtcdRefusal> {
         match operation {
             Operation::Put { .. } | Operation::Delete { .. } => Ok(()),
@@ -236,7 +238,7 @@ impl Keyspace {
         }
     }
 
-    /// Writes a key at the next revision.
+    /// Writes or deletes a key at the next revision.
     fn write(
         &mut self,
         key: &[u8],
@@ -272,7 +274,7 @@ impl Keyspace {
         });
     }
 
-    /// The next revision is over, if it has changed anything.
+    /// Ends the next revision, if anything has changed in it.
     fn end_revision(&mut self, changes: Vec<KeyChange>) {
         if !changes.is_empty() {
             self.revision += 1;
@@ -280,11 +282,11 @@ impl Keyspace {
         }
     }
 
-    /// Lets go what was written before this revision and isn't there at it any more.
+    /// Compacts history up to this revision. From then on, clients can't read at an earlier revision.
     ///
     /// # Errors
     ///
-    /// If that is done already, or the revision isn't there yet.
+    /// Fails if history was compacted that far already, or if the revision doesn't exist yet.
     pub fn compact(&mut self, revision: u64) -> Result<(), EtcdRefusal> {
         match revision {
             it if it <= self.compacted => Err(EtcdRefusal::Compacted),
@@ -296,10 +298,11 @@ impl Keyspace {
         }
     }
 
-    /// Returns what a watch of this range hears from this revision on.
+    /// Returns the changes that a watch of this range hears from this revision on.
     ///
-    /// At the revision of the compaction itself etcd tells of what was put there and is there still, and not of what was
-    /// deleted: so whoever has heard of all before that must begin a revision sooner, and is told that it is let go.
+    /// If a watch begins at the revision of the compaction itself, etcd tells it of the keys that were put at that
+    /// revision, but not of those that were deleted. So a client that has heard of all changes before must begin one
+    /// revision sooner. It is then told that this revision was let go.
     pub fn heard(&self, range: &RangeQuery, from: u64) -> Heard {
         if from < self.compacted {
             return Heard::Compacted(self.compacted);
@@ -310,7 +313,7 @@ impl Keyspace {
         Heard::Changes(heard.cloned().collect())
     }
 
-    /// Whether watches are told of this change still.
+    /// Returns whether watches are still told of this change.
     fn is_told(&self, change: &KeyChange) -> bool {
         change.revision.0 > self.compacted || change.value.is_some()
     }
@@ -319,7 +322,7 @@ impl Keyspace {
     ///
     /// # Errors
     ///
-    /// If there is one of this number, or no room.
+    /// Fails if a lease of this number exists, or if there is no room.
     pub fn grant(
         &mut self,
         lease: LeaseId,
@@ -341,13 +344,13 @@ impl Keyspace {
         Ok(())
     }
 
-    /// Keeps a lease for its length from now on; returns whether it goes on.
+    /// Keeps a lease, so that it goes on for its length from now on. Returns whether there is such a lease.
     pub fn keep(&mut self, lease: LeaseId, now: Duration) -> bool {
         let found = self.leases.get_mut(&lease);
         found.map(|it| it.end = now + it.length).is_some()
     }
 
-    /// Has each lease go on for its length from then on at least, as whoever leads anew does.
+    /// Extends each lease, so that it goes on for at least its length from this time on. A new leader does this.
     pub fn extend_leases(&mut self, then: Duration) {
         for lease in self.leases.values_mut() {
             lease.end = lease.end.max(then + lease.length);
@@ -358,7 +361,7 @@ impl Keyspace {
     ///
     /// # Errors
     ///
-    /// If there is none.
+    /// Fails if there is no such lease.
     pub fn revoke(&mut self, lease: LeaseId) -> Result<(), EtcdRefusal> {
         let ended = self.leases.remove(&lease).ok_or(EtcdRefusal::NoLease)?;
         let mut changes = Vec::new();
@@ -369,13 +372,13 @@ impl Keyspace {
         Ok(())
     }
 
-    /// Returns the leases that weren't kept for their length.
+    /// Returns the leases that are over, because nobody kept them for their length.
     pub fn overdue(&self, now: Duration) -> Vec<LeaseId> {
         let over = self.leases.iter().filter(|it| it.1.end <= now);
         over.map(|it| *it.0).collect()
     }
 
-    /// Returns the keys of a lease; none if it has ended.
+    /// Returns the keys of a lease. Returns `None` if the lease has ended.
     pub fn keys_of(&self, lease: LeaseId) -> Option<&BTreeSet<Vec<u8>>> {
         self.leases.get(&lease).map(|it| &it.keys)
     }
@@ -386,7 +389,7 @@ impl Keyspace {
     }
 }
 
-/// Whether no key is written twice: put twice, or put and deleted.
+/// Checks that no key is written twice. A key must not be put twice, and must not be both put and deleted.
 fn are_written_once(operations: &[Operation]) -> Result<(), EtcdRefusal> {
     let puts = || {
         operations.iter().filter_map(|it| match it {

@@ -1,31 +1,32 @@
 use std::time::Duration;
 
-/// How many members there are.
+/// The number of members.
 pub const MEMBERS: usize = 3;
 
-/// What is wrong with a member.
+/// The trouble of a member.
 #[derive(Clone, Copy, Debug, PartialEq, Eq)]
 pub enum Trouble {
-    /// It takes calls and answers none, and learns of nothing.
+    /// The member takes calls, but answers none. It doesn't learn of changes.
     Hangs,
-    /// It can't be reached, and learns of nothing.
+    /// The member can't be reached, and doesn't learn of changes.
     IsGone,
-    /// It learns late of what is made, and answers. It asks the leader before it answers all but watches.
+    /// The member answers, but learns late of changes. It asks the leader before it answers, except for watches and, by
+    /// its gateway, for transactions that only compare.
     Lags,
 }
 
-/// What a call of a member comes to.
+/// The outcome of a call to a member.
 #[derive(Clone, Copy, Debug, PartialEq, Eq)]
 pub enum Reached {
-    /// It answers.
+    /// The member answers.
     Answers,
-    /// It takes the call, and answers later or never: it hangs, or reaches nobody who leads.
+    /// The member takes the call, and answers later or never. It hangs, or it reaches no leader.
     Hangs,
-    /// It doesn't take the call.
+    /// The member doesn't take the call.
     IsGone,
 }
 
-/// A member that is in trouble until a time, and how far it had come before.
+/// The trouble of a member, the time at which it ends, and the last revision of which the member knew before.
 #[derive(Clone, Copy)]
 struct Troubled {
     trouble: Trouble,
@@ -33,11 +34,11 @@ struct Troubled {
     revision: u64,
 }
 
-/// The members of an etcd, and which of them leads.
+/// The members of an etcd, and the one that leads.
 pub struct Members {
     troubled: [Option<Troubled>; MEMBERS],
     leader: usize,
-    /// Since when it leads; nobody leads before.
+    /// The time from which on the leader leads. Nobody leads before.
     leads_since: Duration,
 }
 
@@ -56,7 +57,7 @@ impl Members {
         self.troubled[member].filter(|it| now < it.until)
     }
 
-    /// Whether the member takes part in what most members agree on.
+    /// Returns whether the member takes part when members agree. If it hangs or is gone, it doesn't.
     fn takes_part(&self, member: usize, now: Duration) -> bool {
         match self.trouble(member, now).map(|it| it.trouble) {
             None | Some(Trouble::Lags) => true,
@@ -64,7 +65,7 @@ impl Members {
         }
     }
 
-    /// Has a member be in trouble until then, which has come to this revision.
+    /// Puts a member in trouble until this time. If the member lags, it knows only of the changes up to this revision.
     pub fn strike(&mut self, member: usize, trouble: Trouble, until: Duration, revision: u64) {
         self.troubled[member] = Some(Troubled {
             trouble,
@@ -78,7 +79,7 @@ impl Members {
         self.takes_part(self.leader, now).then_some(self.leader)
     }
 
-    /// Has the next member that takes part lead from then on.
+    /// Elects the next member that takes part. It leads from `since` on. If no member takes part, nothing changes.
     pub fn elect(&mut self, now: Duration, since: Duration) {
         let others = (1..=MEMBERS).map(|it| (self.leader + it) % MEMBERS);
         let mut able = others.filter(|it| self.takes_part(*it, now));
@@ -87,14 +88,15 @@ impl Members {
         }
     }
 
-    /// Returns whether most members agree, and one of these leads.
+    /// Returns whether most members take part, and the leader is one of them.
     pub fn serve(&self, now: Duration) -> bool {
         let able = (0..MEMBERS).filter(|it| self.takes_part(*it, now)).count();
         let leads = now >= self.leads_since && self.leader(now).is_some();
         leads && able > MEMBERS / 2
     }
 
-    /// Returns what a call of this member comes to, which it answers by what most members agree on.
+    /// Returns the outcome of a call to this member. If the member answers, it answers by the state on which most
+    /// members agree.
     pub fn reached(&self, member: usize, now: Duration) -> Reached {
         match self.trouble(member, now).map(|it| it.trouble) {
             Some(Trouble::IsGone) => Reached::IsGone,
@@ -104,7 +106,7 @@ impl Members {
         }
     }
 
-    /// Returns up to which revision this member tells watches; none if it tells nothing.
+    /// Returns the revision up to which this member tells watches of changes. Returns `None` if it tells nothing.
     pub fn told(&self, member: usize, now: Duration, revision: u64) -> Option<u64> {
         match self.trouble(member, now) {
             None => Some(revision),

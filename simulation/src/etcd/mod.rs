@@ -1,5 +1,5 @@
-//! An etcd that is simulated: what its members agree on, the members themselves, and the way of a client to them.
-//! `tests/etcd.rs` compares the first with a real etcd, answer by answer.
+//! A simulated etcd. It consists of the state on which its members agree, the members, and the route of a client to
+//! them. `tests/etcd.rs` compares the answers of that state with those of a real etcd, one by one.
 mod keyspace;
 mod members;
 mod operation;

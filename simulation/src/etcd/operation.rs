@@ -1,19 +1,20 @@
-//! What clients ask of etcd, and what it answers, as far as the store's client uses it.
+//! The requests of clients to etcd, and its answers. Only those are here that the store's client uses.
 use durkenzo_store::{LeaseId, Pair, Transaction};
 
-/// A range of keys: one if the end is empty, else all from the key on and before the end.
+/// A range of keys. If the end is empty, the range is one key. If the end is a zero byte, the range has all keys from
+/// `key` on. Otherwise it has the keys from `key` on that come before `end`.
 #[derive(Clone, Debug, PartialEq, Eq)]
 pub struct RangeQuery {
     pub key: Vec<u8>,
     pub end: Vec<u8>,
-    /// How many pairs are told at most; all if it is 0.
+    /// The greatest number of pairs in the answer. If it is 0, the answer has all pairs.
     pub limit: usize,
-    /// The revision at which it is read; the present if it is 0.
+    /// The revision at which the range is read. If it is 0, the range is read as it is now.
     pub revision: u64,
 }
 
 impl RangeQuery {
-    /// Returns a query of one key at the present.
+    /// Returns a query for one key as it is now.
     pub fn of_key(key: &[u8]) -> RangeQuery {
         RangeQuery {
             key: key.to_vec(),
@@ -41,7 +42,7 @@ pub enum Operation {
         value: Vec<u8>,
         lease: Option<LeaseId>,
     },
-    /// Deletes one key if the end is empty, else all from the key on and before the end.
+    /// Deletes one key if the end is empty. Otherwise it deletes all keys of the range, as for a [`RangeQuery`].
     Delete {
         key: Vec<u8>,
         end: Vec<u8>,
@@ -49,7 +50,8 @@ pub enum Operation {
     Range(RangeQuery),
 }
 
-/// A transaction: by whether all of these keys were written last at these revisions, one list or the other.
+/// A transaction. If each of the compared keys was last written at its revision, etcd does the operations of `success`.
+/// Otherwise it does those of `failure`.
 #[derive(Clone, Debug, Default, PartialEq, Eq)]
 pub struct EtcdTransaction {
     pub compares: Vec<(Vec<u8>, u64)>,
@@ -58,14 +60,14 @@ pub struct EtcdTransaction {
 }
 
 impl EtcdTransaction {
-    /// Returns whether any of its lists puts a key, so that etcd refuses it once it is full.
+    /// Returns whether either list puts a key. If etcd is full, it refuses such a transaction.
     pub fn takes_room(&self) -> bool {
         let mut operations = self.success.iter().chain(&self.failure);
         operations.any(|it| matches!(it, Operation::Put { .. }))
     }
 }
 
-/// As the store's client spells a transaction.
+/// Makes the transaction that the store's client sends to etcd for this one.
 impl From<&Transaction> for EtcdTransaction {
     fn from(it: &Transaction) -> EtcdTransaction {
         let compares = it.compares.iter();
@@ -89,17 +91,17 @@ impl From<&Transaction> for EtcdTransaction {
     }
 }
 
-/// What a range holds.
+/// The pairs of a range.
 #[derive(Clone, Debug, Default, PartialEq, Eq)]
 pub struct RangeReply {
     pub pairs: Vec<Pair>,
-    /// How many keys there are, beyond the limit too.
+    /// How many keys the range has, also beyond the limit.
     pub count: usize,
-    /// Whether the limit left some out.
+    /// Whether the limit left out some pairs.
     pub more: bool,
 }
 
-/// What an operation came to.
+/// The result of an operation.
 #[derive(Clone, Debug, PartialEq, Eq)]
 pub enum Response {
     Put,
@@ -107,29 +109,29 @@ pub enum Response {
     Range(RangeReply),
 }
 
-/// What a transaction came to.
+/// The result of a transaction.
 #[derive(Clone, Debug, PartialEq, Eq)]
 pub struct TransactionReply {
-    /// The revision after it.
+    /// The revision of the store after the transaction.
     pub revision: u64,
-    /// Whether its compares held.
+    /// Whether all of its compares held.
     pub succeeded: bool,
     pub responses: Vec<Response>,
 }
 
-/// Why etcd does nothing of what it was asked.
+/// Why etcd refuses a request.
 #[derive(Clone, Copy, Debug, PartialEq, Eq)]
 pub enum EtcdRefusal {
-    /// What lay there at that revision is let go.
+    /// The request is for a revision that was compacted.
     Compacted,
-    /// Nothing was written at that revision so far.
+    /// The request is for a revision that doesn't exist yet.
     Future,
-    /// A key is written twice.
+    /// The request writes a key twice.
     DuplicateKey,
     /// There is no such lease.
     NoLease,
-    /// There is such a lease already.
+    /// A lease of this number exists already.
     LeaseExists,
-    /// The quota is reached.
+    /// The store has reached its quota, so it has no room.
     NoSpace,
 }

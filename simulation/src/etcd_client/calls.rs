@@ -1,4 +1,4 @@
-//! What clients have asked members, and what these have answered so far.
+//! The calls of clients to members, and the answers so far.
 use durkenzo_store::{AnswerBody, Later, MemberAnswer, MemberCall, NoAnswer};
 use std::collections::{BTreeMap, VecDeque};
 use std::future::poll_fn;
@@ -6,21 +6,21 @@ use std::sync::{Arc, Mutex, MutexGuard};
 use std::task::{Poll, Waker};
 use std::time::{Duration, Instant};
 
-/// A call of a member.
+/// A call to a member.
 pub struct Call {
-    /// The client that asks.
+    /// The place of the client that calls.
     pub place: usize,
-    /// The member that is asked, of those of the etcd.
+    /// The member that is called, by its number in the etcd.
     pub member: usize,
     pub path: &'static str,
     pub asked: Vec<u8>,
     pub sent: Duration,
-    /// The status of the answer, if that has begun.
+    /// The status of the answer, or the reason why there is no answer. It is missing until the answer begins.
     head: Option<Result<u16, NoAnswer>>,
     pieces: VecDeque<Vec<u8>>,
-    /// How the answer ends, if it does.
+    /// The end of the answer, once it has ended.
     end: Option<Result<(), NoAnswer>>,
-    /// Whether nobody waits for it any more.
+    /// Whether nobody waits for the answer any more.
     is_dropped: bool,
     waker: Option<Waker>,
 }
@@ -31,7 +31,7 @@ impl Call {
     }
 }
 
-/// All calls, by their numbers, and who waits for a time.
+/// All calls by their numbers, and all tasks that wait for a time.
 #[derive(Default)]
 pub struct Calls {
     calls: BTreeMap<u64, Call>,
@@ -42,7 +42,7 @@ pub struct Calls {
 /// The calls of all clients.
 pub type SharedCalls = Arc<Mutex<Calls>>;
 
-/// Locks the calls. They are never locked while a task runs.
+/// Locks the calls. The caller must not hold the lock while a task runs, because tasks lock the calls too.
 pub fn locked(shared: &SharedCalls) -> MutexGuard<'_, Calls> {
     shared.lock().expect("no schedule goes on after a panic")
 }
@@ -53,43 +53,43 @@ impl Calls {
         self.next
     }
 
-    /// Returns the calls that no member has answered, in their order.
+    /// Returns the numbers of the calls that no member has answered, in their order.
     pub fn unanswered(&self) -> Vec<u64> {
         let calls = self.calls.iter().filter(|it| it.1.head.is_none());
         calls.map(|it| *it.0).collect()
     }
 
-    /// Returns a call that goes on.
+    /// Returns the call of this number, if it goes on.
     pub fn get(&self, number: u64) -> Option<&Call> {
         self.calls.get(&number)
     }
 
-    /// Returns whether anybody waits for what answers this call.
+    /// Returns whether anybody waits for the answer to this call.
     pub fn is_awaited(&self, number: u64) -> bool {
         self.get(number).is_some_and(|it| !it.is_dropped)
     }
 
-    /// Has the answer of a call begin.
+    /// Begins the answer to a call: with a status, or with the reason why there is no answer.
     pub fn begin(&mut self, number: u64, head: Result<u16, NoAnswer>) {
         self.change(number, |it| it.head = Some(head));
     }
 
-    /// Has these bytes of an answer come.
+    /// Adds these bytes to the answer to a call.
     pub fn push(&mut self, number: u64, piece: Vec<u8>) {
         self.change(number, |it| it.pieces.push_back(piece));
     }
 
-    /// Ends the answer of a call.
+    /// Ends the answer to a call.
     pub fn end(&mut self, number: u64, end: Result<(), NoAnswer>) {
         self.change(number, |it| it.end = Some(end));
     }
 
-    /// Forgets a call that nobody waits for, as it never comes to a member.
+    /// Forgets a call for which nobody waits, because it never reaches a member.
     pub fn forget(&mut self, number: u64) {
         self.calls.remove(&number);
     }
 
-    /// Returns how many calls and timers somebody waits for.
+    /// Returns for how many calls and times somebody still waits.
     pub fn awaited(&self) -> usize {
         let awaited = self.calls.values().filter(|it| !it.is_dropped);
         awaited.count() + self.timers.len()
@@ -106,7 +106,7 @@ impl Calls {
         }
     }
 
-    /// Wakes who waits for a time until now.
+    /// Wakes all tasks whose time has come by now.
     pub fn wake_until(&mut self, now: Instant) {
         let due = self.timers.iter().filter(|it| it.1 .0 <= now);
         let due: Vec<u64> = due.map(|it| *it.0).collect();
@@ -119,14 +119,14 @@ impl Calls {
             return;
         };
         call.is_dropped = true;
-        // One that no member has answered may come there still.
+        // If no member has answered the call, it may still reach one.
         if call.head.is_some() {
             self.calls.remove(&number);
         }
     }
 }
 
-/// A call that is waited for.
+/// A call whose answer somebody waits for, until this is dropped.
 struct Awaited {
     number: u64,
     shared: SharedCalls,
@@ -138,7 +138,7 @@ impl Drop for Awaited {
     }
 }
 
-/// Sends a call, and returns what waits for its answer.
+/// Sends a call, and returns a future for its answer.
 pub fn send(
     shared: &SharedCalls,
     place: usize,
@@ -210,7 +210,7 @@ impl AnswerBody for Awaited {
     }
 }
 
-/// Somebody who waits for a time.
+/// The wait of a task for a time, until this is dropped.
 struct Timer {
     number: u64,
     shared: SharedCalls,
@@ -222,7 +222,7 @@ impl Drop for Timer {
     }
 }
 
-/// Waits until that time, by a clock that tells this moment.
+/// Waits until this time, by the clock that `now` reads.
 pub fn wait_until(
     shared: &SharedCalls,
     until: Instant,

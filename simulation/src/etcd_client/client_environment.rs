@@ -3,13 +3,13 @@ use crate::time::Time;
 use durkenzo_store::{Environment, Later, MemberAnswer, MemberCall, NoAnswer};
 use std::time::Instant;
 
-/// What a client has around it: the time of the schedule, and members that answer when the schedule says so.
+/// The environment of a client: the time of the schedule, and members that answer when the schedule says so.
 pub struct ClientEnvironment {
     pub calls: SharedCalls,
     pub time: Time,
     /// The place of the client.
     pub place: usize,
-    /// The members that it knows, in the order in which it counts them.
+    /// The members that the client knows, in the order in which it counts them.
     pub members: Vec<usize>,
 }
 

@@ -1,4 +1,4 @@
-//! What clients may tell, judged by all that the members have agreed on.
+//! The laws of the answers of clients. An answer is judged by the state on which the members have agreed.
 use super::record::{Asked, Record, Told, WatchRecord};
 use crate::etcd::Keyspace;
 use crate::law::Broken;
@@ -6,10 +6,10 @@ use durkenzo_store::{
     KeyChange, LeaseError, Outcome, Pair, Reading, Revision, Seen, Transaction, WriteError,
 };
 
-/// A law, and whether it is kept.
+/// The result of a check: the law that is broken, if one is.
 type Verdict = Result<(), &'static str>;
 
-/// Judges what a client told of a call that it was asked for.
+/// Judges the answer of a client to a request.
 pub fn judge(keyspace: &Keyspace, keys: &[Vec<u8>], record: &Record) -> Result<(), Broken> {
     let Some((told, ended)) = &record.told else {
         return Err(broken("what is asked is answered or refused", record));
@@ -19,7 +19,7 @@ pub fn judge(keyspace: &Keyspace, keys: &[Vec<u8>], record: &Record) -> Result<(
     verdict.map_err(|law| broken(law, record))
 }
 
-/// Whether what was told until this revision is true.
+/// Checks that an answer is true. The answer came by the revision `ended`.
 fn is_true(
     keyspace: &Keyspace,
     keys: &[Vec<u8>],
@@ -55,8 +55,8 @@ fn is_true(
     }
 }
 
-/// All is done that is asked while members answer and calls aren't harmed, except under a lease that has ended. Whether
-/// room is given back isn't judged.
+/// Checks that a request was done, if nothing was wrong meanwhile. While all members answer and no call is harmed, each
+/// request must be done, unless its lease has ended. Whether room is given back isn't judged.
 fn is_done_if_steady(told: &Told, record: &Record) -> Verdict {
     let is_done = match told {
         Told::Became(became) => matches!(became, Ok(_) | Err(WriteError::LeaseEnded)),
@@ -79,7 +79,8 @@ fn broken(law: &'static str, record: &Record) -> Broken {
     Broken { law, by }
 }
 
-/// Returns the revisions at which something of the transaction was written: each value is written by one alone.
+/// Returns the revisions at which the transaction was made. Its first put shows them, because each value is written by
+/// only one transaction.
 fn revisions_of(keyspace: &Keyspace, transaction: &Transaction) -> Vec<u64> {
     let Some(put) = transaction.puts.first() else {
         return Vec::new();
@@ -129,7 +130,7 @@ fn is_true_outcome(
     }
 }
 
-/// Whether a transaction that was made at these revisions ended so.
+/// Checks that this is the outcome of a transaction that was made at these revisions.
 fn is_true_ending(
     keyspace: &Keyspace,
     transaction: &Transaction,
@@ -164,8 +165,9 @@ fn is_true_ending(
     }
 }
 
-/// Whether a key that the transaction made was deleted until then. If a store is full, the client looks whether the key
-/// is as it was compared: if it was to be new, the client doesn't see that it was made and deleted meanwhile.
+/// Returns whether a key that the transaction created was deleted by the revision `until`. If a store is full, the
+/// client looks whether the key is still as it was compared. If the key was to be new, and was created and deleted
+/// meanwhile, the client doesn't see that.
 fn was_deleted(keyspace: &Keyspace, transaction: &Transaction, made: &[u64], until: u64) -> bool {
     let mut compares = transaction.compares.iter();
     let is_gone = |key: &[u8]| match made {
@@ -191,7 +193,8 @@ fn is_true_reading<'a>(
     }
 }
 
-/// Keys that were there all the time are told, and keys that weren't there at any time aren't.
+/// Checks the keys that a client read. They must include each key that was there all the time, and no key that was
+/// never there.
 fn are_true_keys<'a>(
     keyspace: &Keyspace,
     keys: impl Iterator<Item = &'a Vec<u8>>,
@@ -227,7 +230,8 @@ fn is_true_of_lease(kept: &Result<(), LeaseError>, record: &Record) -> Verdict {
     }
 }
 
-/// Judges what a watch told: all that lay there, and then each change once, in its order.
+/// Judges the changes that a watch told. It must first tell all values that were there, and then each change once, in
+/// order.
 pub fn judge_watch(
     keyspace: &Keyspace,
     keys: &[Vec<u8>],

@@ -1,19 +1,20 @@
-//! Clients of etcd as they ship, which ask members that are in trouble by chance.
+//! Schedules of etcd clients as they ship. The members that they ask get into trouble by chance.
 use super::calls::{locked as locked_calls, SharedCalls};
 use super::client_environment::ClientEnvironment;
 use super::client_law::{judge, judge_watch};
 use super::gateway::{GatewayAnswer, DONE, REFUSED};
 use super::gateway_json as json;
 use super::record::{Asked, Record, Told, WatchRecord};
-use super::tasks::Tasks;
 use crate::chance::Chance;
 use crate::etcd::{EtcdRefusal, Heard, Keyspace, RangeQuery, Reached, MEMBERS};
 use crate::fault::Fault;
-use crate::faults::{counts_of, Faults};
+use crate::fault_counts::FaultCounts;
+use crate::faults::Faults;
 use crate::law::Broken;
 use crate::plan::{Plan, Ran};
 use crate::simulated_store::{locked, SharedStore, SimulatedStore};
 use crate::tally::Tally;
+use crate::tasks::Tasks;
 use crate::time::Time;
 use crate::timeline::{Column, Timeline};
 use durkenzo_store::{EtcdClient, KeyChange, LeaseId, NoAnswer, Revision, Seen, Transaction};
@@ -26,18 +27,18 @@ const CLIENTS: usize = 2;
 const EVENTS: u64 = 1_200;
 /// How long a client waits for an answer.
 const PATIENCE: Duration = Duration::from_secs(5);
-/// How long a call is on its way to a member that answers, at most, and so its answer.
+/// The longest time for which a call is on its way to a member that answers. The answer comes back at once.
 const DELAY: Duration = Duration::from_millis(300);
-/// How long all members have to have answered until a lease has to be kept.
+/// If all members have answered for this time, a lease must be kept.
 const STEADY: Duration = Duration::from_millis(2_500);
-/// For how many milliseconds nobody leads at most.
+/// The longest time without a leader, in milliseconds.
 const ELECTION: u64 = 3_500;
-/// How many rounds of so many milliseconds all is over within, once nothing fails.
+/// Once nothing fails, everything must be over within this many rounds. A round has `ROUND` milliseconds.
 const SETTLING: u64 = 4_000;
 const ROUND: u64 = 50;
 const PREFIXES: [&[u8]; 2] = [b"k/", b"l/"];
 
-/// The keys of a schedule.
+/// Returns all keys of a schedule.
 fn keys() -> Vec<Vec<u8>> {
     let keys = |it: &str| (0..5).map(|at| format!("{it}/{at}").into_bytes()).collect();
     ["k", "l"]
@@ -46,7 +47,7 @@ fn keys() -> Vec<Vec<u8>> {
         .collect()
 }
 
-/// What may happen next.
+/// An event that may happen next.
 type Happening = fn(&mut ClientWorld);
 
 const HAPPENINGS: [(Happening, u64); 7] = [
@@ -59,18 +60,19 @@ const HAPPENINGS: [(Happening, u64); 7] = [
     (ClientWorld::pass_time, 25),
 ];
 
-/// A watch that a member tells what changes.
+/// A watch that hears changes from a member.
 struct Stream {
     call: u64,
     member: usize,
     range: RangeQuery,
-    /// What it isn't told yet, by revisions, of all up to this one: what is let go later it is told all the same.
+    /// The changes that the watch isn't told yet, by their revisions, up to the revision `noted`. If they are compacted
+    /// later, the watch is told all the same.
     untold: VecDeque<(u64, Vec<KeyChange>)>,
     noted: u64,
 }
 
 impl Stream {
-    /// Notes what has changed by now.
+    /// Notes the changes that were made by now.
     fn note(&mut self, keyspace: &Keyspace) {
         for revision in self.noted + 1..=keyspace.revision() {
             let changes = keyspace.changes_of(revision).iter();
@@ -80,7 +82,7 @@ impl Stream {
         self.noted = keyspace.revision();
     }
 
-    /// Takes what changed up to this revision.
+    /// Takes the changes up to this revision.
     fn taken(&mut self, until: u64) -> Vec<KeyChange> {
         let count = self.untold.partition_point(|it| it.0 <= until);
         self.untold.drain(..count).flat_map(|it| it.1).collect()
@@ -100,7 +102,8 @@ struct ClientWorld {
     timeline: Timeline,
     store: SharedStore,
     calls: SharedCalls,
-    /// Calls that came to a member while it didn't answer, and wait there for good.
+    /// Calls that reached a member while it didn't answer. Whoever waits for them isn't answered later either, until
+    /// the schedule settles.
     stuck: Vec<u64>,
     clients: Vec<EtcdClient>,
     tasks: Tasks,
@@ -109,18 +112,18 @@ struct ClientWorld {
     watches: Vec<Watching>,
     leases: Vec<LeaseId>,
     values: u64,
-    /// Since when all members answer, and each client's calls aren't harmed.
+    /// For each client, the time since which all members answer and no call of it was harmed.
     steady_since: Arc<Mutex<[Duration; CLIENTS]>>,
 }
 
-/// Runs one schedule of clients by a plan, and checks what they told.
+/// Runs one schedule of clients by a plan, and checks their answers.
 pub fn run_clients_by(plan: &Plan) -> Ran {
     let mut world = ClientWorld::new(plan);
     world.pass();
     let tally = Tally {
         events: EVENTS,
         passed_time: world.time.passed().as_millis() as u64,
-        faults: counts_of(&world.faults.struck()),
+        faults: FaultCounts::of(&world.faults.struck()),
         ..Tally::default()
     };
     let names: Vec<String> = (0..CLIENTS).map(|it| format!("client {it}")).collect();
@@ -131,7 +134,7 @@ pub fn run_clients_by(plan: &Plan) -> Ran {
         verdict: world.judge(),
         struck,
         timeline,
-        // It has lines alone.
+        // There is no picture of clients, only a timeline.
         picture: None,
     }
 }
@@ -200,7 +203,7 @@ impl ClientWorld {
         }
     }
 
-    /// A client watches these keys, once it has read them.
+    /// Makes a client watch these keys, once it has read them.
     fn watch(&mut self, place: usize, prefix: &'static [u8]) {
         let client = self.clients[place].clone();
         let record = Arc::new(Mutex::new(WatchRecord {
@@ -220,7 +223,7 @@ impl ClientWorld {
         self.watches.push(Watching { task, record });
     }
 
-    /// A client is asked for something.
+    /// Asks a client for something.
     fn ask(&mut self) {
         let asked = self.asked();
         let place = self.chance.below(CLIENTS as u64) as usize;
@@ -244,7 +247,7 @@ impl ClientWorld {
         });
     }
 
-    /// Notes what a client is asked for, and returns its place.
+    /// Notes a request to a client, and returns the place of its record.
     fn note_asked(&mut self, asked: &Asked) -> usize {
         let was_there = ClientWorld::has_lease(&self.store, asked, None);
         let begun = locked(&self.store).revision();
@@ -262,7 +265,7 @@ impl ClientWorld {
         records.len() - 1
     }
 
-    /// Whether the lease of what is asked, or of what was told of it, is there.
+    /// Returns whether the lease is there that the request names, or that the answer grants.
     fn has_lease(store: &SharedStore, asked: &Asked, told: Option<&Told>) -> bool {
         let lease = match (asked, told) {
             (_, Some(Told::Granted(Ok(lease)))) => Some(*lease),
@@ -290,7 +293,7 @@ impl ClientWorld {
         }
     }
 
-    /// Notes the leases that were granted.
+    /// Notes the last leases that were granted.
     fn learn_leases(&mut self) {
         let records = self.records.lock().expect("no panic");
         let granted = records.iter().filter_map(|it| match &it.told {
@@ -307,8 +310,8 @@ impl ClientWorld {
         keys[self.chance.below(keys.len() as u64) as usize].clone()
     }
 
-    /// A transaction that compares the first key that it writes, so that it isn't made twice: with what lies there, or
-    /// with what lay there before.
+    /// Returns a transaction that compares the first key that it writes, so that it can't be made twice. It compares
+    /// the key with its present revision, or with the one before.
     fn transaction(&mut self, lease: Option<LeaseId>) -> Transaction {
         let (key, other) = (self.key(), self.key());
         let revision = locked(&self.store).keyspace.revision_of(&key);
@@ -328,7 +331,7 @@ impl ClientWorld {
         }
     }
 
-    /// A call comes to a member, or is answered.
+    /// Delivers some call that no member has answered.
     fn deliver(&mut self) {
         let calls = locked_calls(&self.calls).unanswered();
         let at = self.chance.below(calls.len().max(1) as u64) as usize;
@@ -358,7 +361,7 @@ impl ClientWorld {
                 let why = NoAnswer::Unreachable("the member is gone".to_owned());
                 locked_calls(&self.calls).begin(number, Err(why));
             }
-            // One that nobody waits for is sent by nobody again.
+            // If nobody waits for the call, nobody sends it again.
             Reached::IsGone => locked_calls(&self.calls).forget(number),
             Reached::Hangs => self.be_stuck(number, place),
             Reached::Answers if self.stuck.contains(&number) && is_there => {}
@@ -371,7 +374,8 @@ impl ClientWorld {
         }
     }
 
-    /// A call waits at a member that doesn't answer: some for good, and some are refused in the end.
+    /// Leaves a call at a member that doesn't answer. Some calls wait there, some are refused, and some lose their
+    /// connection.
     fn be_stuck(&mut self, number: u64, place: usize) {
         match self.chance.below(8) {
             0 => self.break_call(number, place),
@@ -381,13 +385,13 @@ impl ClientWorld {
         }
     }
 
-    /// The member of a call, and the client that it is of.
+    /// Returns the member to which a call goes, and the place of the client that made it.
     fn way(&self, number: u64) -> Option<(usize, usize)> {
         let calls = locked_calls(&self.calls);
         calls.get(number).map(|it| (it.member, it.place))
     }
 
-    /// The connection of a call breaks before anything comes back.
+    /// Breaks the connection of a call before anything comes back.
     fn break_call(&mut self, number: u64, place: usize) {
         self.harm(place);
         let why = NoAnswer::Broken("the connection is broken".to_owned());
@@ -402,7 +406,7 @@ impl ClientWorld {
         self.steady_since.lock().expect("no panic")[place] = self.time.passed();
     }
 
-    /// A member does what it is asked, and answers, unless the answer is lost.
+    /// Lets a member do a call and answer it, unless the answer is lost.
     fn answer(&mut self, number: u64, member: usize, place: usize) {
         let (path, asked) = {
             let calls = locked_calls(&self.calls);
@@ -417,7 +421,7 @@ impl ClientWorld {
         }
         let column = Column::Process(place);
         if path == "/v3/kv/txn" && self.fails(Fault::SentTwice, 12, column) {
-            // What comes of the copy nobody learns.
+            // Nobody learns the outcome of the copy.
             let _ = locked(&self.store).answer(member, path, &asked);
         }
         self.note_changes();
@@ -439,7 +443,8 @@ impl ClientWorld {
         }
     }
 
-    /// A member begins to tell what changes from this revision on, or says that some of that was let go.
+    /// Lets a member begin a watch from this revision on. If the revision was let go, the member says so and ends the
+    /// watch.
     fn begin_watch(&mut self, number: u64, member: usize, range: RangeQuery, first: u64) {
         let (store, mut calls) = (locked(&self.store), locked_calls(&self.calls));
         let revision = store.revision();
@@ -463,7 +468,7 @@ impl ClientWorld {
         }
     }
 
-    /// Notes what has changed, for all watches.
+    /// Notes the changes for all watches.
     fn note_changes(&mut self) {
         let store = locked(&self.store);
         self.streams
@@ -471,7 +476,7 @@ impl ClientWorld {
             .for_each(|it| it.note(&store.keyspace));
     }
 
-    /// A member's answer comes, in two pieces, unless it is cut between them.
+    /// Delivers a member's answer in two pieces, unless the answer is cut between them.
     fn tell(&mut self, number: u64, status: u16, told: &serde_json::Value) {
         let Some((_, place)) = self.way(number) else {
             return;
@@ -502,7 +507,7 @@ impl ClientWorld {
         locked(&self.store).fails(fault, times, column)
     }
 
-    /// Members tell watches what has changed, as far as they know it.
+    /// Lets members tell watches of the changes that they know.
     fn tell_watches(&mut self) {
         let streams = std::mem::take(&mut self.streams);
         for stream in streams {
@@ -535,7 +540,7 @@ impl ClientWorld {
         self.streams.push(stream);
     }
 
-    /// The connection of a watch breaks.
+    /// Breaks the connection of some watch, if the fault strikes.
     fn break_watch(&mut self) {
         let at = self.chance.below(self.streams.len().max(1) as u64) as usize;
         if at < self.streams.len() && self.fails(Fault::WatchBreaks, 2, Column::Store) {
@@ -545,7 +550,7 @@ impl ClientWorld {
         }
     }
 
-    /// The members may come into trouble.
+    /// Gets the members into trouble by chance.
     fn trouble(&mut self) {
         let mut store = locked(&self.store);
         store.come_into_trouble();
@@ -562,7 +567,7 @@ impl ClientWorld {
         self.note_changes();
     }
 
-    /// Time passes, and what is on its way for too long comes there.
+    /// Lets time pass, and delivers the calls that were on their way for too long.
     fn pass_time(&mut self) {
         let most = match self.chance.below(6) {
             0 => 120,
@@ -590,7 +595,8 @@ impl ClientWorld {
         locked_calls(&self.calls).wake_until(self.time.now());
     }
 
-    /// Nothing fails any more, so all that was asked is over within some time, and watches have told all.
+    /// Lets the schedule settle. Nothing fails any more, so all requests must be over within some time, and watches
+    /// must have told all changes.
     fn settle(&mut self) {
         locked(&self.store).is_calm = true;
         for _ in 0..SETTLING {
@@ -618,7 +624,7 @@ impl ClientWorld {
         self.watches.iter().all(told)
     }
 
-    /// Judges all that was told, and that nothing is left.
+    /// Judges all answers and watches, and checks that no call and no task is left.
     fn judge(mut self) -> Result<(), Broken> {
         let (keys, store) = (keys(), self.store.clone());
         {

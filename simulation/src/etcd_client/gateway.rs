@@ -1,4 +1,4 @@
-//! What a member answers by its gateway, of what all members agree on.
+//! The answers that a member gives by its gateway, from the state on which all members agree.
 use super::gateway_json as json;
 use crate::etcd::{EtcdRefusal, EtcdTransaction, TransactionReply};
 use crate::etcd::{RangeQuery, Response};
@@ -7,22 +7,22 @@ use durkenzo_store::LeaseId;
 use serde_json::Value;
 use std::time::Duration;
 
-/// The statuses of HTTP by which a gateway answers.
+/// The HTTP statuses of a gateway's answers.
 pub const DONE: u16 = 200;
 pub const REFUSED: u16 = 400;
 
-/// What a member answers.
+/// The answer of a member.
 pub enum GatewayAnswer {
-    /// This, at once.
+    /// A status and a body, at once.
     Whole(u16, Value),
-    /// A stream that says this.
+    /// A stream of this one message.
     Line(Value),
-    /// A stream that tells what changes in this range from this revision on.
+    /// A stream of the changes in this range, from this revision on.
     Watch(RangeQuery, u64),
 }
 
 impl SimulatedStore {
-    /// Answers a call of this member.
+    /// Answers a call to this member.
     pub fn answer(&mut self, member: usize, path: &str, asked: &[u8]) -> GatewayAnswer {
         let asked: Value = serde_json::from_slice(asked).expect("JSON of the client");
         match path {
@@ -43,12 +43,12 @@ impl SimulatedStore {
                 let revision = self.revision();
                 whole(compacted.map(|()| json::nothing(revision)))
             }
-            // A member gives back its room, and has no alarm.
+            // The other calls ask the member to give room back, or for its alarms. It has no alarm.
             _ => GatewayAnswer::Whole(DONE, json::nothing(self.revision())),
         }
     }
 
-    /// Grants a lease, keeps it, or else ends it.
+    /// Grants a lease, keeps it or ends it, as the path says.
     fn answer_of_lease(&mut self, path: &str, asked: &Value) -> GatewayAnswer {
         let lease = LeaseId(json::number(&asked["ID"]) as i64);
         match path {
@@ -72,7 +72,7 @@ impl SimulatedStore {
         }
     }
 
-    /// Makes a transaction. One that only compares is answered by what the member has itself, which may be behind.
+    /// Makes a transaction. If it only compares, the member answers by its own state, which may be behind.
     fn answer_transaction(&mut self, member: usize, asked: &EtcdTransaction) -> GatewayAnswer {
         self.keyspace.set_full(self.is_full());
         if asked.success.is_empty() && asked.failure.is_empty() {

@@ -1,11 +1,11 @@
-//! The JSON of an etcd's gateway: what clients ask, and what members answer.
+//! The JSON of an etcd's gateway: the requests of clients, and the answers of members.
 use crate::etcd::{
     EtcdRefusal, EtcdTransaction, Operation, RangeQuery, RangeReply, Response, TransactionReply,
 };
 use durkenzo_store::{KeyChange, LeaseId, Pair};
 use serde_json::{json, Value};
 
-/// The codes of gRPC by which a gateway refuses.
+/// The gRPC codes by which a gateway refuses.
 const INVALID: u64 = 3;
 const NOT_FOUND: u64 = 5;
 const FAILED: u64 = 9;
@@ -21,7 +21,7 @@ fn bytes(value: &Value) -> Vec<u8> {
     base64::decode(value.as_str().unwrap_or_default()).expect("base64 of the client")
 }
 
-/// A number, which is left out if it is 0.
+/// Returns the number in a field. If the field is left out, the number is 0.
 pub fn number(value: &Value) -> u64 {
     let told = value
         .as_str()
@@ -29,7 +29,7 @@ pub fn number(value: &Value) -> u64 {
     told.unwrap_or(0)
 }
 
-/// What a client asks of a range.
+/// Returns a client's request for a range.
 pub fn range_query(asked: &Value) -> RangeQuery {
     RangeQuery {
         key: bytes(&asked["key"]),
@@ -39,7 +39,7 @@ pub fn range_query(asked: &Value) -> RangeQuery {
     }
 }
 
-/// What a client asks by a transaction.
+/// Returns a client's transaction.
 pub fn transaction(asked: &Value) -> EtcdTransaction {
     let list = |name: &str| {
         let operations = asked[name].as_array().into_iter().flatten();
@@ -86,7 +86,8 @@ fn stored(pair: &Pair) -> Value {
     })
 }
 
-/// What a member answers of a range, with no values if only keys are asked for, and no pairs if only their count is.
+/// Returns a member's answer about a range. If only keys are asked for, it has no values. If only their count is asked
+/// for, it has no pairs.
 pub fn range_reply(revision: u64, found: &RangeReply, asked: &Value) -> Value {
     let pair = |it: &Pair| match asked["keys_only"] == true {
         true => stored(&Pair {
@@ -102,7 +103,7 @@ pub fn range_reply(revision: u64, found: &RangeReply, asked: &Value) -> Value {
     json!({"header": header(revision), "kvs": pairs, "more": found.more, "count": found.count.to_string()})
 }
 
-/// What a member answers of a transaction.
+/// Returns a member's answer to a transaction.
 pub fn transaction_reply(reply: &TransactionReply) -> Value {
     let response = |it: &Response| match it {
         Response::Put => json!({"response_put": {}}),
@@ -117,12 +118,12 @@ pub fn transaction_reply(reply: &TransactionReply) -> Value {
     json!({"header": header(reply.revision), "succeeded": reply.succeeded, "responses": responses})
 }
 
-/// What a member answers that has nothing to say.
+/// Returns a member's answer without content.
 pub fn nothing(revision: u64) -> Value {
     json!({"header": header(revision)})
 }
 
-/// What a member answers of a lease.
+/// Returns a member's answer about a lease. If the lease has no time left, the answer leaves its time out.
 pub fn lease(revision: u64, lease: LeaseId, seconds: u64) -> Value {
     let mut told = json!({"header": header(revision), "ID": lease.0.to_string()});
     if seconds > 0 {
@@ -131,12 +132,12 @@ pub fn lease(revision: u64, lease: LeaseId, seconds: u64) -> Value {
     told
 }
 
-/// What a member says of a watch that begins.
+/// Returns a member's message that a watch begins.
 pub fn created(revision: u64) -> Value {
     json!({"header": header(revision), "created": true})
 }
 
-/// What a member tells a watch.
+/// Returns a member's message that tells a watch of these changes.
 pub fn events(revision: u64, changes: &[KeyChange]) -> Value {
     let event = |it: &KeyChange| match &it.value {
         Some(value) => json!({"kv": stored(&Pair {
@@ -154,19 +155,19 @@ pub fn events(revision: u64, changes: &[KeyChange]) -> Value {
     json!({"header": header(revision), "events": events})
 }
 
-/// What a member tells a watch whose changes were let go.
+/// Returns a member's message that ends a watch, because its changes were compacted.
 pub fn canceled(revision: u64, compacted: u64) -> Value {
     json!({"header": header(revision), "canceled": true, "compact_revision": compacted.to_string()})
 }
 
-/// What a member answers by a stream.
+/// Returns a message of a member as a line of a stream.
 pub fn line(told: &Value) -> Vec<u8> {
     let mut bytes = json!({"result": told}).to_string().into_bytes();
     bytes.push(b'\n');
     bytes
 }
 
-/// What a member answers that does nothing of it.
+/// Returns a member's refusal.
 pub fn refusal(refusal: EtcdRefusal) -> Value {
     let (code, message) = match refusal {
         EtcdRefusal::Compacted => (
@@ -185,7 +186,7 @@ pub fn refusal(refusal: EtcdRefusal) -> Value {
     json!({"error": message, "code": code, "message": message})
 }
 
-/// What a member answers that reaches none that leads.
+/// Returns a member's answer if it reaches no leader.
 pub fn no_leader() -> Value {
     let message = "etcdserver: no leader";
     json!({"error": message, "code": UNAVAILABLE, "message": message})

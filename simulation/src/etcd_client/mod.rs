@@ -1,5 +1,6 @@
-//! The client of etcd as it ships, which asks the simulated etcd by the JSON of its gateway, byte for byte. It isn't
-//! told by these schedules what the processes of the others do: those have ways to members of their own.
+//! Schedules of the etcd client as it ships. The client asks the simulated etcd by the JSON of its gateway, byte for
+//! byte. These schedules don't show how the processes of other schedules reach members, because those have routes of
+//! their own.
 mod calls;
 mod client_environment;
 mod client_law;
@@ -7,6 +8,5 @@ mod client_world;
 mod gateway;
 mod gateway_json;
 mod record;
-mod tasks;
 
 pub use client_world::run_clients_by;

@@ -4,7 +4,7 @@ use durkenzo_store::{
 };
 use std::time::Duration;
 
-/// What a client is asked for.
+/// A request to a client.
 #[derive(Clone, Debug)]
 pub enum Asked {
     Make(Transaction),
@@ -18,7 +18,7 @@ pub enum Asked {
     Compact,
 }
 
-/// What a client has told.
+/// An answer of a client.
 #[derive(Debug)]
 pub enum Told {
     Became(Result<Outcome, WriteError>),
@@ -27,15 +27,15 @@ pub enum Told {
     Granted(Result<LeaseId, LeaseError>),
     Kept(Result<(), LeaseError>),
     Revoked(Result<(), LeaseError>),
-    /// Whether room was given back isn't judged.
+    /// The client has tried to give room back. Whether it did isn't judged.
     Compacted,
 }
 
-/// How long leases are.
+/// The length of a lease.
 pub const LEASE: Duration = Duration::from_secs(3);
 
 impl Asked {
-    /// Has the client do it.
+    /// Asks the client to do this, and returns its answer.
     pub async fn told_by(&self, client: &EtcdClient) -> Told {
         match self {
             Asked::Make(transaction) => Told::Became(client.make(transaction).await),
@@ -57,7 +57,7 @@ impl Asked {
 }
 
 impl Asked {
-    /// Returns it as timelines have it.
+    /// Returns the request as timelines show it.
     pub fn shown(&self) -> String {
         match self {
             Asked::Make(transaction) => summary(transaction),
@@ -74,7 +74,7 @@ impl Asked {
 }
 
 impl Told {
-    /// Returns it as timelines have it.
+    /// Returns the answer as timelines show it.
     pub fn shown(&self) -> String {
         match self {
             Told::Became(told) => became(told),
@@ -92,26 +92,26 @@ impl Told {
     }
 }
 
-/// What a client was asked for, and what it told.
+/// A request to a client, and its answer.
 #[derive(Debug)]
 pub struct Record {
     pub asked: Asked,
-    /// The revision, and the time, when it was asked.
+    /// The revision of the store, and the time, at which the client was asked.
     pub begun: u64,
     pub begun_at: Duration,
-    /// Whether its lease was there then.
+    /// Whether the lease of the request was there then.
     pub was_there: bool,
-    /// What it told, and the revision then.
+    /// The answer, and the revision of the store when it came.
     pub told: Option<(Told, u64)>,
-    /// Whether its lease was there when it was told.
+    /// Whether the lease of the request or of the answer was there when the answer came.
     pub is_there: bool,
-    /// Whether nothing was wrong for so long that it has to be done.
+    /// Whether nothing was wrong for so long that the request must be done.
     pub is_due: bool,
-    /// Whether nothing was wrong since it was asked.
+    /// Whether nothing was wrong from the request to the answer.
     pub is_steady: bool,
 }
 
-/// What a watch told.
+/// The changes that a watch told.
 #[derive(Debug)]
 pub struct WatchRecord {
     pub prefix: Vec<u8>,

@@ -1,4 +1,4 @@
-use super::visiting::LostAnswer;
+use super::visiting_work::LostAnswer;
 use super::{LinkedReply, LinkedStep, Parcel, Parcels, SimulatedReason, VisitingWork};
 use crate::bug::Bug;
 use crate::command_mail::PassedCommand;
@@ -13,7 +13,7 @@ use std::io;
 use std::sync::{Arc, Mutex, Weak};
 use std::time::Instant;
 
-/// What a control is asked, and hasn't taken yet.
+/// The requests that a control hasn't taken yet.
 pub type Inbox = Arc<Mutex<VecDeque<Asked>>>;
 
 /// A process as its links know it.
@@ -83,7 +83,8 @@ impl PeerSession for LinkedHost {
             return requests.for_each(|it| it.1.refuse(SimulatedReason::stopped()));
         };
         let steps = requests.filter_map(|(bytes, reply)| {
-            // A link would take it for this one's that numbered its requests anew on each connection.
+            // If a link numbered its requests anew on each connection, it would take the lost answer for the answer to
+            // this one.
             let lost = self.lost.lock().expect("no panic").take();
             match lost {
                 Some(answer) => {
@@ -112,7 +113,7 @@ impl PeerSession for LinkedHost {
     }
 }
 
-/// Where the driver sends steps.
+/// The destination of the driver's steps.
 #[derive(Clone)]
 pub struct LinkedDestination(pub Elsewhere);
 

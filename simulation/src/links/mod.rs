@@ -1,11 +1,11 @@
-//! What processes that have the links that ship send one another: steps, commands for controls, and their answers.
+//! The messages between processes that have the links that ship: steps, commands for controls, and the answers to both.
 mod host;
 mod parcels;
 mod reason;
 mod reply;
 mod shape;
 mod step;
-mod visiting;
+mod visiting_work;
 
 pub use host::{Inbox, LinkedDestination, LinkedHost};
 pub use parcels::{Parcel, Parcels, SpelledAnswer, SpelledStep};
@@ -14,4 +14,4 @@ pub use step::LinkedStep;
 
 use reason::SimulatedReason;
 use reply::LinkedReply;
-use visiting::VisitingWork;
+use visiting_work::VisitingWork;

@@ -5,7 +5,7 @@ use std::sync::{Arc, Mutex};
 #[derive(Clone)]
 pub struct SpelledStep {
     pub begin: Begin,
-    /// The number that makes the texts of what it decides its own, and how often it was decided before.
+    /// The number that makes the texts of its decisions its own, and how often it was decided before.
     pub text: u32,
     pub decided: u32,
 }
@@ -14,24 +14,25 @@ pub struct SpelledStep {
 #[derive(Clone)]
 pub struct SpelledAnswer {
     pub held: Vec<MapReply>,
-    /// What was decided each time.
+    /// The requests of each decision.
     pub decided: Vec<Vec<MapRequest>>,
     pub replies: Vec<MapReply>,
 }
 
-/// What processes say to one another.
+/// The messages of processes to one another.
 #[derive(Clone)]
 pub enum Parcel {
     Step(SpelledStep),
     Answer(SpelledAnswer),
 }
 
-/// All that was said. Its bytes are its place among that, and some more, so that frames are long and short.
+/// All messages so far. The bytes of a message are its place among them, and some padding, so that some frames are long
+/// and others short.
 #[derive(Clone, Default)]
 pub struct Parcels(Arc<Mutex<Vec<Parcel>>>);
 
 impl Parcels {
-    /// Returns the bytes of this.
+    /// Adds a message, and returns its bytes.
     pub fn spelled(&self, parcel: Parcel) -> Vec<u8> {
         let mut all = self.0.lock().expect("no schedule goes on after a panic");
         let place = all.len();
@@ -41,7 +42,7 @@ impl Parcels {
         bytes
     }
 
-    /// Returns what has these bytes.
+    /// Returns the message with these bytes.
     pub fn of(&self, bytes: &[u8]) -> Option<Parcel> {
         let place = usize::from_be_bytes(*bytes.first_chunk()?);
         let all = self.0.lock().expect("no schedule goes on after a panic");

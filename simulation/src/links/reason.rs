@@ -2,7 +2,7 @@ use durkenzo_control::links::{put_text, Fields, Reason, WireFault};
 use durkenzo_driver::NotDone;
 use durkenzo_store::Revision;
 
-/// Why a step isn't done, as one process tells another. What differs to no law is told as not made.
+/// Why a step isn't done, as one process tells another. If no law tells a reason apart, it is told as not made.
 #[derive(Clone, Debug, PartialEq, Eq)]
 pub struct SimulatedReason(pub NotDone);
 

@@ -4,7 +4,7 @@ use durkenzo_control::control::{ControlAnswer, Refusal, ReplyTo};
 use durkenzo_control::links::{Reason, ReplySender};
 use std::fmt;
 
-/// Where the answer goes to a command that came by a link.
+/// The destination of the answer to a command that came by a link.
 pub struct LinkedReply(pub ReplySender<SimulatedReason>);
 
 impl ReplyTo for LinkedReply {

@@ -9,16 +9,16 @@ use durkenzo_driver::{Clock, Durable, HandOver, Member};
 use std::sync::Arc;
 use std::time::Duration;
 
-/// The checksum of the settings that all processes have, and what each of them knows.
+/// The checksum of the settings that all processes have, and the secret that each of them knows.
 const SETTINGS: u64 = 7;
 const SECRET: &[u8] = b"a secret";
 
-/// How the links of a process are.
+/// The shape of a process's links.
 pub struct LinkShape {
     pub parcels: Parcels,
     pub ledger: SharedLedger,
     pub bug: Option<Bug>,
-    /// How long requests wait.
+    /// How long a request waits.
     pub wait: Duration,
     /// Whether the process is of the version before.
     pub is_older: bool,
@@ -44,7 +44,7 @@ impl LinkShape {
         Links::without_threads(terms, member.clone(), self.wait, clock)
     }
 
-    /// Returns what sends steps to other processes by these links.
+    /// Returns a function that sends steps to other processes by these links.
     pub fn hand_over(&self, links: &Links<LinkedHost>, sender: Sender) -> HandOver {
         let (links, ledger, bug) = (links.clone(), self.ledger.clone(), self.bug);
         Box::new(move |elsewhere, steps| {
@@ -54,7 +54,8 @@ impl LinkShape {
         })
     }
 
-    /// Has the links answer other processes by these shards, and what this control is asked.
+    /// Begins the links. They answer the steps of other processes by these shards, and pass commands on to this
+    /// control.
     pub fn begin(
         &self,
         links: &Links<LinkedHost>,

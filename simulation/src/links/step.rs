@@ -4,14 +4,14 @@ use crate::ledger::SharedLedger;
 use durkenzo_control::links::{ForwardedMessage, ForwardedRequest, FIRST_TABLE};
 use durkenzo_driver::{Begin, NotDone, WorkStep};
 
-/// The version of the table of commands that processes have which aren't of the version before.
+/// The version of the table of commands of a process, unless the process is of the version before.
 pub const TABLE: u16 = FIRST_TABLE + 1;
 
-/// A step that a link has, and ends or gives back.
+/// A step that a link has. The link must end it or give it back.
 pub struct LinkedStep {
     /// The step, until it is ended or given back.
     step: Option<WorkStep>,
-    /// The process that gave it to the link.
+    /// The process that gave the step to the link.
     life: u64,
     ledger: SharedLedger,
     bug: Option<Bug>,
@@ -81,7 +81,7 @@ impl ForwardedRequest for LinkedStep {
 
     fn after_loss(self, why: &str) -> Option<LinkedStep> {
         let begin = &self.step().begin;
-        // These change nothing if they are done twice.
+        // If such a step is done twice, the second time changes nothing.
         let is_harmless = begin.only_reads() || matches!(begin, Begin::Numbered(..));
         if is_harmless || self.bug == Some(Bug::SentAgain) {
             return Some(self);

@@ -1,17 +1,17 @@
 use durkenzo_control::links::Closer;
 use std::sync::atomic::{AtomicBool, Ordering};
 
-/// Ends a side of a connection, once its bytes are moved next.
+/// Ends a side of a connection when its bytes are moved the next time.
 #[derive(Default)]
 pub struct SimulatedCloser(AtomicBool);
 
 impl SimulatedCloser {
-    /// Ends it.
+    /// Ends the side.
     pub fn close(&self) {
         self.0.store(true, Ordering::Relaxed);
     }
 
-    /// Returns whether it was ended.
+    /// Returns whether the side was ended.
     pub fn is_ended(&self) -> bool {
         self.0.load(Ordering::Relaxed)
     }

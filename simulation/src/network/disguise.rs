@@ -4,15 +4,15 @@ use durkenzo_control::links::Greeting;
 /// The version that processes of the version before speak.
 const OLDER: u8 = 1;
 
-/// How a connection begins of which one side or both are of the version before: that greets in its own version, and
-/// refuses every other one.
+/// The beginning of a connection if one side or both are of the version before. Such a side greets in its own version,
+/// and refuses each other one.
 pub struct Disguise {
     is_caller_older: bool,
     hello: Vec<u8>,
 }
 
 impl Disguise {
-    /// Returns that of a connection whose caller, or whose called side, is of the version before, if one is.
+    /// Returns the disguise of a connection if its caller or its called side is of the version before.
     pub fn of([caller, called]: [bool; 2]) -> Option<Disguise> {
         (caller || called).then_some(Disguise {
             is_caller_older: caller,
@@ -20,8 +20,8 @@ impl Disguise {
         })
     }
 
-    /// Takes the bytes by which the caller greets, until they are whole: they go on as they are to be, or are refused
-    /// by these bytes.
+    /// Takes the bytes of the caller's greeting. Returns `None` until the greeting is whole. If the called side refuses
+    /// it, returns the bytes of the refusal. Otherwise it goes on in the version before.
     pub fn take(&mut self, called: &mut Pipe) -> Option<Option<Vec<u8>>> {
         self.hello.extend(called.bytes.drain(..));
         let (greeting, version, _) = Greeting::read(&self.hello).ok()??;
@@ -55,7 +55,8 @@ mod tests {
         bytes
     }
 
-    /// What becomes of a hello of this version, byte by byte, between such processes: what goes on, and the refusal.
+    /// Sends a hello of this version byte by byte between such processes. Returns the bytes that go on, and the
+    /// refusal.
     fn became(are_older: [bool; 2], version: u8) -> (Vec<u8>, Option<Vec<u8>>) {
         let (mut disguise, mut pipe) = (Disguise::of(are_older).unwrap(), Pipe::default());
         let (hello, mut became) = (hello(version), None);

@@ -1,4 +1,4 @@
-//! The network between processes that have the links that ship: connections come to be, carry bytes in their order, and
+//! The network between processes that have the links that ship. Its connections are made, carry bytes in order, and
 //! break.
 mod closer;
 mod disguise;
@@ -21,31 +21,32 @@ use std::sync::Arc;
 use std::time::Duration;
 use wire::{Wire, WireStream, CALLED, CALLER};
 
-/// How long it takes until a process gives up to reach another one.
+/// How long a process tries to reach another one before it gives up.
 const DIALLING: Duration = Duration::from_secs(2);
-/// For how long two processes can't reach each other, and a direction carries nothing, at most.
+/// The longest time in milliseconds for which two processes can't reach each other, or for which a direction carries
+/// nothing. A direction may also be cut for good.
 const HARM: u64 = 3_000;
 /// How many places there are.
 const PLACES: u64 = 4;
 
-/// One side of a connection: whose it is, and what ends it.
+/// One side of a connection: the process that has it, and the closer that ends it.
 struct Side {
     sender: Sender,
     connection: Connection<LinkedHost>,
     closer: Arc<SimulatedCloser>,
 }
 
-/// A connection between two processes: who called first, and then who was called.
+/// A connection between two processes. The caller's side comes first, and then the called side.
 struct Connected {
     wire: Wire,
     sides: [Option<Side>; 2],
 }
 
-/// A process that is being reached.
+/// An attempt of a process to reach another one.
 struct Dialling {
     from: Sender,
     dial: Dial<LinkedHost>,
-    /// When that is given up.
+    /// The time at which the process gives up.
     until: Duration,
 }
 
@@ -58,11 +59,11 @@ pub struct SimulatedNetwork {
     timeline: Timeline,
     connected: Vec<Connected>,
     dialling: Vec<Dialling>,
-    /// Until when one place doesn't reach another one.
+    /// For two places, the time until which the first doesn't reach the second.
     blocked: BTreeMap<(usize, usize), Duration>,
     /// The processes of the version before.
     older: BTreeSet<u64>,
-    /// How many connections were made, and how many broke.
+    /// How many connections were made, and how many of their sides ended while their processes ran.
     pub made: u64,
     pub broken: u64,
 }
@@ -95,7 +96,7 @@ impl SimulatedNetwork {
         self.older.insert(life);
     }
 
-    /// Has a process begin to reach another one.
+    /// Begins the attempt of a process to reach another one.
     pub fn dial(&mut self, from: Sender, dial: Dial<LinkedHost>) {
         match dial.address() {
             Ok(_) => self.dialling.push(Dialling {
@@ -107,7 +108,8 @@ impl SimulatedNetwork {
         }
     }
 
-    /// Has processes be reached that are there, or not. If all is calm, none isn't.
+    /// Connects processes with those that they try to reach. Some attempts fail by chance, but if all is calm, each
+    /// process that is there is reached.
     pub fn reach(&mut self, there: &[(Sender, &Links<LinkedHost>)], is_calm: bool) {
         for dialling in std::mem::take(&mut self.dialling) {
             let Dialling { from, dial, until } = dialling;
@@ -157,7 +159,7 @@ impl SimulatedNetwork {
         });
     }
 
-    /// Some bytes of some connection go on, on the side of a process that isn't paused.
+    /// Moves some bytes on one side of some connection, if the process of that side isn't paused.
     pub fn go_on(&mut self, is_paused: impl Fn(Sender) -> bool) {
         let at = self.chance.below(self.connected.len().max(1) as u64) as usize;
         let side = self.chance.below(2) as usize;
@@ -168,7 +170,8 @@ impl SimulatedNetwork {
         }
     }
 
-    /// All bytes go on, as far as that leads to no end of more.
+    /// Moves all bytes until none moves any more. It gives up after `ROUNDS`, because bytes may lead to more without
+    /// end.
     pub fn settle(&mut self) {
         const ROUNDS: usize = 2_000;
         for _ in 0..ROUNDS {
@@ -185,7 +188,7 @@ impl SimulatedNetwork {
         }
     }
 
-    /// What this process has still to send goes, as far as it can.
+    /// Sends the bytes that this process still has to send, as far as they can go.
     pub fn flush(&mut self, life: u64) {
         for at in 0..self.connected.len() {
             for side in [CALLER, CALLED] {
@@ -199,7 +202,7 @@ impl SimulatedNetwork {
         self.forget_ended();
     }
 
-    /// One side writes and reads once. Returns whether bytes moved, or the side ended.
+    /// Lets one side write and read once. Returns whether bytes moved or the side ended.
     fn move_bytes(&mut self, at: usize, side: usize) -> bool {
         let (now, bug) = (self.time.passed(), self.bug);
         let Some(Connected { wire, sides }) = self.connected.get_mut(at) else {
@@ -224,7 +227,7 @@ impl SimulatedNetwork {
         has_moved || ended.is_err() || is_refused
     }
 
-    /// One side has ended: the other one reads that, or that the connection was reset.
+    /// Ends one side. The other side reads the end, or that the connection was reset.
     fn end(&mut self, at: usize, side: usize, error: &io::Error) {
         let Connected { wire, sides } = &mut self.connected[at];
         if let Some(ended) = sides[side].take() {
@@ -235,7 +238,7 @@ impl SimulatedNetwork {
         }
     }
 
-    /// A process is gone with all its sides: with its machine, so that nobody is told, or not.
+    /// Removes all sides of a process that is gone. If the fault strikes, its machine is gone too, and nobody is told.
     pub fn forget(&mut self, life: u64) {
         let now = self.time.passed();
         self.dialling.retain(|it| it.from.life != life);
@@ -259,13 +262,13 @@ impl SimulatedNetwork {
         self.connected.retain(is_there);
     }
 
-    /// Returns how many connections are there of which one side is gone, or that are to be made.
+    /// Returns how many connections have lost one side, or are still to be made.
     pub fn half_connected(&self) -> usize {
         let is_half = |it: &&Connected| it.sides.iter().any(Option::is_none);
         self.dialling.len() + self.connected.iter().filter(is_half).count()
     }
 
-    /// Something fails: a direction carries nothing for a while or for good, a connection breaks, or one process
+    /// Lets something fail. A direction carries nothing for a while or for good, a connection breaks, or one process
     /// doesn't reach another one.
     pub fn harm(&mut self) {
         let at = self.chance.below(self.connected.len().max(1) as u64) as usize;
@@ -286,7 +289,7 @@ impl SimulatedNetwork {
         }
     }
 
-    /// One process doesn't reach another one.
+    /// Keeps one place from reaching another one for a while.
     fn block(&mut self) {
         let [from, to] = [(); 2].map(|()| self.chance.below(PLACES) as usize);
         let column = Column::Process(from);
@@ -297,7 +300,7 @@ impl SimulatedNetwork {
         }
     }
 
-    /// One direction of a connection of that place carries nothing, or both do.
+    /// Cuts one direction or both of a connection of this place, so that nothing arrives.
     fn cut(&mut self, at: usize, place: usize) {
         let column = Column::Process(place);
         let struck = self.faults.strike(Fault::ConnectionCut, 1, 1, column);
@@ -326,7 +329,7 @@ impl Side {
     }
 }
 
-/// Has `WouldBlock` be no end.
+/// Returns no error for `WouldBlock`, because it doesn't end a connection.
 fn goes_on(moved: io::Result<()>) -> io::Result<()> {
     match moved {
         Err(error) if error.kind() == ErrorKind::WouldBlock => Ok(()),

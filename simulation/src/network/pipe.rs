@@ -5,9 +5,9 @@ use std::time::Duration;
 #[derive(Default)]
 pub struct Pipe {
     pub bytes: VecDeque<u8>,
-    /// Whether no more come.
+    /// Whether no more bytes come.
     pub has_ended: bool,
-    /// Since when nothing arrives, and until when, if that ends.
+    /// The time since which nothing arrives, and the time at which that ends, if it does.
     cut: Option<(Duration, Option<Duration>)>,
 }
 
@@ -17,7 +17,7 @@ impl Pipe {
         self.bytes.extend(bytes);
     }
 
-    /// Reads bytes that are there. Returns how many.
+    /// Reads bytes that are there, and returns how many.
     pub fn read(&mut self, room: &mut [u8], most: usize) -> usize {
         let count = room.len().min(most).min(self.bytes.len());
         let taken = room.iter_mut().zip(self.bytes.drain(..count));
@@ -25,19 +25,19 @@ impl Pipe {
         count
     }
 
-    /// Has nothing arrive from now on, until that moment or for good.
+    /// Lets nothing arrive from now on, until this moment or for good. If that is so already, nothing changes.
     pub fn cut(&mut self, now: Duration, until: Option<Duration>) {
         if !self.is_cut(now) {
             self.cut = Some((now, until));
         }
     }
 
-    /// Returns whether nothing arrives.
+    /// Returns whether nothing arrives now.
     pub fn is_cut(&self, now: Duration) -> bool {
         self.cut.is_some_and(|it| it.1.is_none_or(|it| it > now))
     }
 
-    /// Returns since when nothing arrives, if that is so.
+    /// Returns the time since which nothing arrives, if that is so now.
     pub fn cut_since(&self, now: Duration) -> Option<Duration> {
         self.cut.filter(|_| self.is_cut(now)).map(|it| it.0)
     }

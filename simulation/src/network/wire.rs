@@ -8,28 +8,29 @@ use std::time::Duration;
 /// The sides of a connection.
 pub const CALLER: usize = 0;
 pub const CALLED: usize = 1;
-/// How many bytes are on their way at most: of some connections few, so that who reads slowly holds up who writes.
+/// How many bytes are on their way at most. Some connections have room for few, so that a slow reader holds up the
+/// writer.
 const ROOMS: [usize; 3] = [64, 1 << 10, 1 << 16];
-/// How many bytes move at once, at most.
+/// How many bytes move at once at most.
 const PIECE: u64 = 700;
 
-/// What carries the bytes of a connection.
+/// A wire, which carries the bytes of a connection.
 pub struct Wire {
-    /// What each side writes.
+    /// The bytes that each side writes.
     pub pipes: [Pipe; 2],
     room: usize,
-    /// Whether each side has ended, and whether the other one is told so by a reset.
+    /// Whether each side has ended, and whether the other side is told so by a reset.
     has_ended: [bool; 2],
     is_reset: bool,
-    /// Since when the machine of a side is gone.
+    /// The time since which the machine of a side is gone.
     dark_since: Option<Duration>,
-    /// How the greetings of a process of an older version are, until it has greeted.
+    /// The disguise of a process of the version before, until the caller has greeted.
     disguise: Option<Disguise>,
     moved: u64,
 }
 
 impl Wire {
-    /// Returns a wire between processes of which these are of the version before.
+    /// Returns a wire between two processes. `are_older` says which of them are of the version before.
     pub fn new(chance: &mut Chance, are_older: [bool; 2]) -> Wire {
         Wire {
             pipes: Default::default(),
@@ -47,7 +48,7 @@ impl Wire {
         self.moved
     }
 
-    /// Has the greeting of an older version be so. Returns whether the side that was called refuses the other one's.
+    /// Disguises the caller's greeting, if a side is of the version before. Returns whether the called side refuses it.
     pub fn disguise(&mut self) -> bool {
         let Some(disguise) = &mut self.disguise else {
             return false;
@@ -62,7 +63,7 @@ impl Wire {
         became.is_some()
     }
 
-    /// A side has ended. What is on its way from there still comes, unless the connection is reset.
+    /// Ends a side. The bytes on their way from there still arrive, unless the connection is reset.
     pub fn end(&mut self, side: usize, is_reset: bool) {
         self.has_ended[side] = true;
         self.pipes[side].has_ended = true;
@@ -72,18 +73,18 @@ impl Wire {
         }
     }
 
-    /// The machine of a side is gone without a word.
+    /// Takes away the machine of a side, without a word to the other side.
     pub fn go_dark(&mut self, side: usize, now: Duration) {
         self.dark_since.get_or_insert(now);
         self.pipes[side].cut(now, None);
     }
 
-    /// Has what a side writes arrive no more, until that moment or for good.
+    /// Cuts off the bytes that a side writes, until this moment or for good.
     pub fn cut(&mut self, side: usize, now: Duration, until: Option<Duration>) {
         self.pipes[side].cut(now, until);
     }
 
-    /// Returns one side's end of it.
+    /// Returns one side's end of the wire.
     pub fn stream<'a>(
         &'a mut self,
         side: usize,
@@ -101,7 +102,7 @@ impl Wire {
         }
     }
 
-    /// Whether the system of a side has found out that nothing arrives any more.
+    /// Returns whether the system of a side has found out that nothing arrives any more.
     fn is_found_dead(&self, now: Duration) -> bool {
         let cuts = self.pipes.iter().filter_map(|it| it.cut_since(now));
         let since = cuts.chain(self.dark_since).min();
@@ -115,16 +116,16 @@ pub struct WireStream<'a> {
     side: usize,
     chance: &'a mut Chance,
     now: Duration,
-    /// Whether the system asks whether the other machine is there.
+    /// Whether the system checks that the other machine is there.
     pub keeps_alive: bool,
-    /// Whether this side has ended it.
+    /// Whether this side has ended the connection.
     pub is_closed: bool,
-    /// Whether bytes that arrive are taken for unsent.
+    /// Whether bytes that arrive may be taken for unsent.
     pub is_torn: bool,
 }
 
 impl WireStream<'_> {
-    /// Fails if the connection is over, as the system knows.
+    /// Fails if the system knows that the connection is over.
     fn check(&self) -> io::Result<()> {
         match self.keeps_alive && self.wire.is_found_dead(self.now) {
             true => Err(ErrorKind::TimedOut.into()),
@@ -166,7 +167,7 @@ impl Write for WireStream<'_> {
             return Err(ErrorKind::BrokenPipe.into());
         }
         self.check()?;
-        // Who has ended says so once something comes there.
+        // If the other side has ended, it says so once bytes come there.
         if self.wire.has_ended[1 - self.side] {
             return match self.chance.is_true(1, 2) {
                 true => Ok(bytes.len()),

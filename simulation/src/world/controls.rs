@@ -1,4 +1,5 @@
-//! The controls that ship, in schedules whose processes have them: operators ask them, and all is well in the end.
+//! The controls that ship, in schedules whose processes have them. Operators give them commands, and in the end all is
+//! well.
 use super::{server_of, World, PROCESSES, SERVERS};
 use crate::command_mail::{CommandAnswer, CommandMessage, VisitorReply};
 use crate::fault::Fault;
@@ -13,17 +14,18 @@ use durkenzo_control::control::{Asked, Words};
 use std::sync::atomic::Ordering;
 use std::time::Duration;
 
-/// How long a round is, in milliseconds, in which all that is due is done.
+/// How many milliseconds a round has. In each round, all work that is due is done.
 const ROUND: u64 = 10;
-/// Within how many rounds the first shards have owners, all is well with a process less, and all is over.
+/// How many rounds may pass until all shards have their first owners, until all is well although a server is missing,
+/// and until everything is over.
 const BEGINNING: u64 = 1_000;
 const WELL: u64 = 4_000;
 const OVER: u64 = 8_000;
-/// In how many rounds operators look at what waits for them.
+/// Operators look after the processes and shards once in this many rounds.
 const LOOKING: u64 = 300;
-/// For how many milliseconds a process is paused at most.
+/// A process is paused for less than this, in milliseconds.
 const PAUSE: u64 = 3_000;
-/// The numbers of states: a server is up, a restart of it is asked for or approved, and it is stopped.
+/// The numbers of states: a server is up, its restart is asked for or approved, or it is stopped.
 const UP: u64 = 0;
 const ASKED: u64 = 1;
 const APPROVED: u64 = 2;
@@ -33,10 +35,10 @@ const SERVING: u64 = 1;
 const PAUSED: u64 = 5;
 
 impl World {
-    /// Has the processes campaign, until one leads and all shards have owners.
+    /// Lets the processes campaign until one leads and all shards have owners.
     pub(super) fn begin_controls(&mut self) {
         for _ in 0..BEGINNING {
-            if (0..self.shards).all(|it| self.is_served(it)) {
+            if (0..self.shape.shards).all(|it| self.is_served(it)) {
                 return;
             }
             self.pass_round();
@@ -44,7 +46,7 @@ impl World {
         self.find("shards get owners at the beginning", String::new());
     }
 
-    /// The control of a process has its turn.
+    /// Gives the control of a process a turn.
     pub(super) fn take_turn(&mut self) {
         if let Some(process) = self.process() {
             process.take_turn();
@@ -52,9 +54,9 @@ impl World {
         }
     }
 
-    /// An operator asks a process for something.
+    /// Lets an operator give a random command to a process.
     pub(super) fn operate(&mut self) {
-        let words = operator::asked(&mut self.chance, self.shards, SERVERS);
+        let words = operator::asked(&mut self.chance, self.shape.shards, SERVERS);
         if let Some(place) = self.place() {
             self.ask_control(place, &words);
         }
@@ -75,7 +77,7 @@ impl World {
         });
     }
 
-    /// An operator doesn't wait any more.
+    /// Makes an operator stop waiting for an answer.
     pub(super) fn leave_control(&mut self) {
         let at = self.chance.drawn() as usize;
         let ledger = self.ledger.lock().expect("no panic");
@@ -85,7 +87,7 @@ impl World {
         }
     }
 
-    /// A command reaches the control of another process, or doesn't.
+    /// Brings a command to the control of another process, gives it back, or loses it.
     pub(super) fn deliver_command(&mut self) {
         let Some(message) = self.command_message() else {
             return;
@@ -120,7 +122,7 @@ impl World {
             }
             _ => Some((sender, command)),
         };
-        // One that is lost may have come there.
+        // A lost command may have reached the other control all the same.
         if fate > 1 {
             let reply_to = Box::new(VisitorReply { mails, visits });
             target.ask(Asked { words, reply_to });
@@ -133,7 +135,7 @@ impl World {
         (at < mail.commands.len()).then(|| mail.commands.swap_remove(at))
     }
 
-    /// What became of a command comes back to the process that passed it on, or is lost.
+    /// Brings the outcome of a command back to the process that passed it on, or loses it.
     pub(super) fn answer_command(&mut self) {
         let Some(answer) = self.command_answer() else {
             return;
@@ -158,7 +160,7 @@ impl World {
         (at < mail.commands_back.len()).then(|| mail.commands_back.swap_remove(at))
     }
 
-    /// A process is paused: it does nothing for a while, and then goes on.
+    /// Pauses a process. It does nothing for a while, and then goes on.
     pub(super) fn pause(&mut self) {
         let Some(place) = self.place() else {
             return;
@@ -173,8 +175,11 @@ impl World {
         process.paused_until = self.time.passed() + time;
     }
 
-    /// A process is to stop, or ends its stop.
+    /// Asks a process to stop. If it was asked before, ends it.
     pub(super) fn stop(&mut self) {
+        if self.fleet.is_some() {
+            return self.stop_fleet();
+        }
         let Some(place) = self
             .place()
             .filter(|it| self.strikes(Fault::Stop, 1, 1, *it))
@@ -188,8 +193,8 @@ impl World {
         }
     }
 
-    /// A process ends: those who wait for its control are told so, and others see at once that it is gone.
-    fn end_process(&mut self, place: usize) {
+    /// Ends a process. Those who wait for its control are told so, and others see at once that it is gone.
+    pub(super) fn end_process(&mut self, place: usize) {
         let Some(mut process) = self.processes[place].take() else {
             return;
         };
@@ -204,7 +209,7 @@ impl World {
         self.bury(process);
     }
 
-    /// An operator ends the process of a server that is stopped; another one begins.
+    /// If a server is stopped, an operator ends its process, and another one begins.
     pub(super) fn renew_stopped(&mut self) {
         let at = self.chance.below(PROCESSES as u64) as usize;
         let server = server_of(at);
@@ -214,14 +219,14 @@ impl World {
         }
     }
 
-    /// Faults end, with a server less where chance has it so. Within some time all is well then; and once that server
-    /// is back too, all that was asked is over.
+    /// Ends the faults. If each server has room for all shards, one server may be missing at first. Within some time
+    /// all must be well. Once the missing server is back too, all commands and requests must come to their end.
     pub(super) fn settle_controls(&mut self) {
         self.store().is_calm = true;
         for place in 0..PROCESSES {
             self.go_on_or_end(place);
         }
-        let is_roomy = self.control.as_ref().is_some_and(|it| it.is_roomy);
+        let is_roomy = self.shape.control.as_ref().is_some_and(|it| it.is_roomy);
         let missing = match self.chance.is_true(1, 2) && is_roomy {
             true => 1 + self.chance.below(u64::from(SERVERS)) as u16,
             false => 0,
@@ -230,17 +235,18 @@ impl World {
             self.crash_at(place);
         }
         let is_well =
-            |it: &World| (0..it.shards).all(|shard| it.is_served(shard) || it.is_away(shard));
+            |it: &World| (0..it.shape.shards).all(|shard| it.is_served(shard) || it.is_away(shard));
         if !self.passes_until(WELL, missing, is_well) {
             return self.find("shards get owners that run", self.shown());
         }
-        match self.passes_until(OVER, 0, World::is_over) {
-            true => self.rest(),
-            false => self.find("all that is under way comes to its end", self.shown()),
+        if !self.passes_until(OVER, 0, World::is_over) {
+            return self.find("all that is under way comes to its end", self.shown());
         }
+        self.judge_last_calls();
+        self.rest();
     }
 
-    /// A process that was paused goes on, and one that was to stop ends.
+    /// Makes a paused process go on. If a process was asked to stop, ends it.
     fn go_on_or_end(&mut self, place: usize) {
         let Some(process) = self.processes[place].as_mut() else {
             return;
@@ -251,8 +257,14 @@ impl World {
         }
     }
 
-    /// Lets rounds pass until that is so, so many at most, with no process of this server. Tells whether it is.
-    fn passes_until(&mut self, rounds: u64, missing: u16, is_so: fn(&World) -> bool) -> bool {
+    /// Lets at most `rounds` rounds pass until `is_so` holds. Starts no process of the server `missing`. Returns
+    /// whether `is_so` holds.
+    pub(super) fn passes_until(
+        &mut self,
+        rounds: u64,
+        missing: u16,
+        is_so: fn(&World) -> bool,
+    ) -> bool {
         for round in 0..rounds {
             if is_so(self) {
                 return true;
@@ -265,7 +277,8 @@ impl World {
         is_so(self)
     }
 
-    /// What operators do: processes that are gone or to be ended begin again, and what was paused by hand is resumed.
+    /// Does an operator's work: ends the processes of stopped servers, begins those that are gone, and resumes shards
+    /// that were paused by hand.
     fn look_after(&mut self, missing: u16) {
         for place in 0..PROCESSES {
             let server = server_of(place);
@@ -276,7 +289,7 @@ impl World {
                 self.start_at(place);
             }
         }
-        for shard in 0..self.shards {
+        for shard in 0..self.shape.shards {
             let record = self.record_of(shard);
             let is_left = record.phase == PAUSED && self.state_of(record.owner as u16) <= ASKED;
             if is_left {
@@ -286,7 +299,8 @@ impl World {
         }
     }
 
-    /// An operator asks one of the processes that run: one that another process replaced finds nobody who leads.
+    /// Lets an operator ask a random process of those that run. Another one is drawn each time, because a process that
+    /// was replaced by another one finds no leader.
     fn ask_one(&mut self, words: &[String]) {
         let running: Vec<usize> = (0..PROCESSES)
             .filter(|it| self.processes[*it].is_some())
@@ -297,7 +311,7 @@ impl World {
         }
     }
 
-    /// Some time passes, in which all that is due is done.
+    /// Lets a round pass, in which all work that is due is done.
     fn pass_round(&mut self) {
         self.time.pass(ROUND);
         for process in self.processes.iter_mut().flatten() {
@@ -315,7 +329,7 @@ impl World {
             process.member.turn();
         }
         self.turn_beginnings();
-        self.settle_permits();
+        self.settle_fleets();
         self.lapse();
     }
 
@@ -334,13 +348,13 @@ impl World {
             && self.store().has(key.as_bytes())
     }
 
-    /// Returns whether the shard waits for the return of its owner, which was stopped for a restart.
+    /// Returns whether the shard waits for its owner, which was stopped for a restart.
     fn is_away(&self, shard: u16) -> bool {
         let record = self.record_of(shard);
         record.phase == PAUSED && self.state_of(record.owner as u16) == STOPPED
     }
 
-    /// Returns whether all that was asked and was under way is over, and all servers are up.
+    /// Returns whether all work is over, all servers are up, and all shards have owners that run.
     fn is_over(&self) -> bool {
         let idle =
             |it: &Process| !it.is_asked() && it.campaigner.as_ref().is_none_or(|it| it.is_idle());
@@ -351,13 +365,15 @@ impl World {
         let has_intents = self.store().keys().any(is_intent);
         let has_mail = !self.mails.lock().expect("no panic").is_empty();
         let is_quiet = !is_asked && !has_intents && !has_mail && is_told;
-        is_idle && are_up && is_quiet && (0..self.shards).all(|it| self.is_served(it))
+        is_idle && are_up && is_quiet && (0..self.shape.shards).all(|it| self.is_served(it))
     }
 
-    /// What stands, of which something isn't as it is to be.
+    /// Returns the present state as a text, for a law that is broken.
     fn shown(&self) -> String {
         let states: Vec<u64> = (1..=SERVERS).map(|it| self.state_of(it)).collect();
-        let records: Vec<_> = (0..self.shards).map(|it| self.record_of(it)).collect();
+        let records: Vec<_> = (0..self.shape.shards)
+            .map(|it| self.record_of(it))
+            .collect();
         let ledger = self.ledger.lock().expect("no panic");
         let open: Vec<_> = ledger.commands.iter().filter(|it| it.is_open()).collect();
         let store = self.store();
@@ -389,7 +405,7 @@ impl World {
         record.unwrap_or_default()
     }
 
-    /// Checks what operators were told.
+    /// Checks the answers that operators got.
     pub(super) fn judge_operators(&mut self) {
         let ledger = self.ledger.clone();
         let ledger = ledger.lock().expect("no panic");
@@ -410,7 +426,7 @@ impl World {
     }
 }
 
-/// Returns whether somebody is still to go on with what lies at this key.
+/// Returns whether the key holds an intent, with which a leader still has to go on.
 fn is_intent(key: &[u8]) -> bool {
     DecodedKey::of(key).is_some_and(DecodedKey::is_intent)
 }

@@ -1,5 +1,5 @@
-//! Servers that join and keep their leases, as they ship: they wait for keys that others have, lose their leases, and
-//! take others.
+//! Servers that join and keep their leases, as they ship. If another process has a server's key, they wait for it. If
+//! they lose their leases, they take others.
 use super::{server_of, World, PROCESSES};
 use crate::beginning::{Beginning, BeginningStep};
 use crate::fault::Fault;
@@ -12,7 +12,7 @@ use durkenzo_driver::{JoinFault, Member};
 use std::sync::Arc;
 
 impl World {
-    /// A process of this place begins: it is there once its server is.
+    /// Begins a process at this place. It runs once its server has joined.
     pub(super) fn start(&mut self, place: usize) {
         self.lives += 1;
         self.tally.starts += 1;
@@ -25,8 +25,9 @@ impl World {
             self.store().begin_processes(others);
         }
         let shape = self.link_shape(sender);
-        let surroundings = (&self.store, &self.machines[place]);
-        match Beginning::new(surroundings, sender, server_of(place), shape) {
+        let address = self.fleet.as_ref().map(|it| it.shape.address(sender));
+        let surroundings = (&self.store, &self.shape.machines[place]);
+        match Beginning::new(surroundings, sender, server_of(place), (shape, address)) {
             Ok(beginning) => {
                 self.beginnings[place] = Some(beginning);
                 self.turn_beginning(place);
@@ -35,8 +36,8 @@ impl World {
         }
     }
 
-    /// A process starts at this place, unless one runs or begins there. Mostly it doesn't if another process has the
-    /// key of its server, for which it would wait.
+    /// Starts a process at this place, unless one runs or begins there. If another process has the server's key, the
+    /// new one would wait for it, so it mostly isn't started.
     pub(super) fn start_at(&mut self, at: usize) {
         let is_free = self.processes[at].is_none() && self.beginnings[at].is_none();
         let key = format!("server/{:05}", server_of(at));
@@ -47,12 +48,12 @@ impl World {
         }
     }
 
-    /// Processes that have begun do what is due.
+    /// Lets the processes that have begun do the work that is due.
     pub(super) fn turn_beginnings(&mut self) {
         (0..PROCESSES).for_each(|it| self.turn_beginning(it));
     }
 
-    /// A process that has begun at this place does what is due.
+    /// Lets the process that has begun at this place do the work that is due.
     pub(super) fn turn_beginning(&mut self, place: usize) {
         let Some(beginning) = self.beginnings[place].take() else {
             return;
@@ -67,7 +68,7 @@ impl World {
         }
     }
 
-    /// A process whose server is there opens its shards.
+    /// Opens the shards of a process whose server has joined.
     fn begin_shards(
         &mut self,
         sender: Sender,
@@ -78,18 +79,24 @@ impl World {
         let around = Surroundings {
             store: &self.store,
             mails: &self.mails,
-            clock: &self.machines[sender.place],
+            clock: &self.shape.machines[sender.place],
             links: shape.as_ref(),
-            has_permits: self.has_permits,
+            fleet: self.fleet.as_ref().map(|it| &it.shape),
             bug: self.bug,
         };
-        let started = Process::start(&around, sender, member, self.shards, self.tuning);
+        let started = Process::start(
+            &around,
+            sender,
+            member,
+            self.shape.shards,
+            self.shape.shard_options,
+        );
         let mut process = match started {
             Ok(process) => process,
             Err(fault) => return self.note_unbegun(sender, &JoinFault::from(fault)),
         };
         process.watches = locked(&self.store).watches() - watches;
-        if let Some(control) = &self.control {
+        if let Some(control) = &self.shape.control {
             process.have_control(&self.mails, control);
         }
         let begins = || format!("begins as process {}", process.member.process());
@@ -97,7 +104,7 @@ impl World {
         self.processes[sender.place] = Some(process);
     }
 
-    /// A process ends before it is there.
+    /// Notes that a process ends before its server has joined.
     fn note_unbegun(&mut self, sender: Sender, fault: &JoinFault) {
         let column = Column::Process(sender.place);
         self.timeline
@@ -112,7 +119,8 @@ impl World {
             .for_each(|it| it.forget(sender.life));
     }
 
-    /// Servers do what is due for their keys, but for one that chance leaves out.
+    /// Lets the servers do the work that is due for their keys. By chance one of them is left out, and processes crash
+    /// that haven't joined yet.
     pub(super) fn turn_members(&mut self) {
         let left_out = self.chance.below(2 * PROCESSES as u64) as usize;
         let now = self.time.passed();

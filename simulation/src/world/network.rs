@@ -1,4 +1,4 @@
-//! What happens between processes that have the links that ship.
+//! The events between processes that have the links that ship.
 use super::World;
 use crate::links::LinkedHost;
 use crate::mail::Sender;
@@ -6,11 +6,11 @@ use crate::process::Process;
 use durkenzo_control::links::Links;
 use std::time::Duration;
 
-/// How often bytes move at once, at most.
+/// How many times bytes move at once, at most.
 const MOVES: u64 = 64;
 
 impl World {
-    /// Bytes go on between processes.
+    /// Moves bytes between processes.
     pub(super) fn move_bytes(&mut self) {
         let moves = 1 + self.chance.below(MOVES);
         let (now, processes) = (self.time.passed(), &self.processes);
@@ -23,7 +23,7 @@ impl World {
         }
     }
 
-    /// Processes that links need are reached, or aren't.
+    /// Connects processes to those that their links need, or fails to.
     pub(super) fn reach(&mut self) {
         let (is_calm, now) = (self.store().is_calm, self.time.passed());
         let there: Vec<_> = there(&self.processes, now).collect();
@@ -36,18 +36,18 @@ impl World {
         }
     }
 
-    /// Links do what is due.
+    /// Lets the links of a process do the work that is due.
     pub(super) fn tick_links(&mut self) {
         let links = self.process().and_then(|it| it.links.clone());
         links.iter().for_each(Links::tick);
     }
 
-    /// Something fails between processes.
+    /// Makes something fail between processes.
     pub(super) fn harm_network(&mut self) {
         self.network.iter_mut().for_each(|it| it.harm());
     }
 
-    /// All that is on its way between processes comes there.
+    /// Delivers everything that is on its way between processes.
     pub(super) fn settle_network(&mut self) {
         let now = self.time.passed();
         there(&self.processes, now).for_each(|it| it.1.tick());
@@ -55,9 +55,9 @@ impl World {
         self.network.iter_mut().for_each(|it| it.settle());
     }
 
-    /// A process leaves the others, which read what it has still to tell.
+    /// Makes a process leave the others. They read everything that it still has to tell.
     pub(super) fn leave_links(&mut self, process: &Process) {
-        // Who asked it something sees that it ends.
+        // Those who asked it something see that it ends, so it may drop their requests.
         let mut ledger = self.ledger.lock().expect("no panic");
         ledger.ended.insert(process.sender.life);
         drop(ledger);
@@ -68,7 +68,7 @@ impl World {
         }
     }
 
-    /// Checks that links ended all that they got, or gave it back.
+    /// Checks that links ended all requests that they got, or gave them back.
     pub(super) fn judge_links(&mut self) {
         let ledger = self.ledger.lock().expect("no panic");
         let dropped = ledger.dropped.clone();
@@ -82,7 +82,7 @@ impl World {
     }
 }
 
-/// The processes that aren't paused, and their links.
+/// Returns the processes that aren't paused, and their links.
 fn there(
     processes: &[Option<Process>],
     now: Duration,

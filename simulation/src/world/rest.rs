@@ -1,26 +1,29 @@
-//! Once all that was asked is over, what waits is as long as it was before: no queue grows for good.
+//! Once all work is over, the queues must be as long as they were before. Otherwise a queue would grow forever.
 use super::{World, PERIOD};
 use crate::law::Broken;
 
-/// For how many periods a schedule rests until nothing waits any more.
+/// How many periods a schedule may rest until nothing waits any more.
 const RESTING: u64 = 80;
-/// For how many where processes have the links that ship: who is gone is noticed within ten seconds.
+/// How many periods it may rest if processes have the links that ship. There are more, because it takes up to ten
+/// seconds until others notice that a process is gone.
 const LINKED_RESTING: u64 = 300;
 
-/// What still waits in a schedule, or is there once too often.
+/// The things that still wait in a schedule, or that are there once too often.
 #[derive(Debug, Default, PartialEq, Eq)]
 struct Left {
     flights: usize,
     messages: usize,
-    /// Connections of which one side is gone, or that are to be made.
+    /// Connections that have lost one side, or that aren't made yet.
     half_connected: usize,
     readings: usize,
+    /// Calls, frames and bodies of fleets.
+    of_fleets: [usize; 3],
     leases: usize,
     watches: usize,
 }
 
 impl World {
-    /// Lets time pass until nothing waits, and finds that something waits for good.
+    /// Lets time pass until nothing waits. If something waits forever, notes that.
     pub(super) fn rest(&mut self) {
         let periods = match self.network {
             Some(_) => LINKED_RESTING,
@@ -44,14 +47,17 @@ impl World {
         let (store, mails) = (self.store(), self.mails.lock().expect("no panic"));
         let running = || self.processes.iter().flatten();
         let beginning = self.beginnings.iter().flatten().count();
-        let of_steps = mails.messages.len() + mails.answers.len() + self.handings.len();
+        let of_steps = mails.messages.len() + mails.answers.len();
         Left {
             flights: store.flights.len(),
             messages: of_steps + mails.commands.len() + mails.commands_back.len(),
             half_connected: self.network.as_ref().map_or(0, |it| it.half_connected()),
             readings: running().map(|it| it.read.len()).sum(),
+            of_fleets: self.left_of_fleets(),
             leases: store.leases().saturating_sub(running().count() + beginning),
-            watches: store.watches() - running().map(|it| it.watches).sum::<usize>(),
+            watches: store.watches()
+                - self.client_watches
+                - running().map(|it| it.watches).sum::<usize>(),
         }
     }
 }

@@ -12,10 +12,10 @@ pub struct VisitingWork {
     pub spelled: SpelledStep,
     pub parcels: Parcels,
     pub reply: ReplySender<SimulatedReason>,
-    /// What its keys held when it was decided last, and what was decided each time.
+    /// The values of its keys at the last decision, and the requests of each decision.
     pub held: Vec<MapReply>,
     pub decided: Vec<Vec<MapRequest>>,
-    /// Where an answer goes that nobody reads any more, if that is kept.
+    /// The place for an answer that nobody reads any more, if such answers are kept.
     pub lost: Option<LostAnswer>,
 }
 
