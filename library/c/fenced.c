@@ -1,9 +1,9 @@
-/* Adds 1 to accounts of a database, so that no write of an earlier admission or process lands after a later one:
+/* Adds 1 to accounts in a database. No write of an earlier admission or process can land after a later one:
  *
  *     fenced FILE WRITES [AFTER]
  *
- * Prints what all accounts have in the end. AFTER shows what becomes of tokens that begin too low: the first write that
- * the database refuses ends the program with status 1. */
+ * Prints the totals of all accounts at the end. AFTER shows what happens if tokens begin too low: the database refuses
+ * the first write, and the program ends with status 1. */
 #include <inttypes.h>
 #include <sqlite3.h>
 #include <stdio.h>
@@ -43,8 +43,8 @@ static int64_t run(const char *statement, int64_t first, int64_t second) {
     return number;
 }
 
-/* The number after which the tokens of this process begin. Those of the next one begin above them, by one transaction,
- * so a process that was cut off and still writes has lower ones. */
+/* Returns the number after which this process's tokens begin. The next process's tokens begin above all of them, by one
+ * transaction. So if this process is cut off and goes on writing, its tokens are lower. */
 static uint64_t claimed(void) {
     run("BEGIN IMMEDIATE", 0, 0);
     int64_t after = run("SELECT after FROM fence", 0, 0);

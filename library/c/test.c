@@ -1,5 +1,5 @@
-/* Sees that the header says what the library does where a compiler can't: sizes and places of fields, which
- * library/rust/durkenzo/src/raw.rs has too, and what is refused by which code. */
+/* Checks parts of the header that a compiler can't: the sizes and places of fields, which
+ * library/rust/durkenzo/src/raw.rs has too, and the code of each refusal. */
 #include <assert.h>
 #include <pthread.h>
 #include <stddef.h>
@@ -74,7 +74,7 @@ static uint32_t served(durkenzo_record *read) {
     return durkenzo_serve(&pass, &layout, &envelope, &to, read);
 }
 
-/* A shard that keeps as many requests as it may is admitted nevertheless, and takes two generations. */
+/* A shard that keeps as many requests as it may is admitted all the same, which takes two generations. */
 static void full_shards(void) {
     durkenzo_record read, after;
     durkenzo_envelope_parts back;
@@ -90,7 +90,7 @@ static void full_shards(void) {
     assert(durkenzo_checkpoint(&pass, 0, &generation, &read) == DURKENZO_OK && generation == after.generation + 2);
 }
 
-/* Tokens begin after the number that the board was opened after, and a pass is of a server that the board has. */
+/* Tokens begin after the number that was given when the board was opened. A pass is of a server that the board has. */
 static void fencing_tokens(void) {
     const uint64_t numbers[] = {7}, greatest = (UINT64_C(1) << 63) - (UINT64_C(1) << 36);
     durkenzo_handle board = DURKENZO_HANDLE_INIT, two = DURKENZO_HANDLE_INIT;

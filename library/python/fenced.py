@@ -2,8 +2,8 @@
 
     fenced.py FILE WRITES [AFTER]
 
-Prints what all accounts have in the end. AFTER shows what becomes of tokens that begin too low: the first write that
-the database refuses raises LateWrite.
+Prints the sum of all accounts at the end. With AFTER, the tokens may begin too low: then the first write that the
+database refuses raises LateWrite.
 """
 import sqlite3
 import sys
@@ -31,8 +31,9 @@ def opened(file):
 
 
 def claimed(store):
-    """Returns the number after which the tokens of this process begin, and has those of the next one begin above them:
-    in one transaction, so that a process that was cut off and still writes has lower ones."""
+    """Returns the number after which the tokens of this process begin, and makes the tokens of the next process begin
+    above them. It does so in one transaction, because a process that was cut off and still writes must have lower
+    tokens."""
     with store:
         store.execute("UPDATE fence SET after = after + ?", (MAX_GENERATION,))
         (after,) = store.execute("SELECT after FROM fence").fetchone()

@@ -1,4 +1,4 @@
-"""Makes the wheel one of its platform, as the shared object in it is, and of any Python, as that calls it by ctypes."""
+"""Makes a wheel for one platform, because of the shared object in it, and for any Python, because ctypes calls it."""
 from setuptools import Distribution, setup
 
 try:
@@ -15,7 +15,7 @@ class WithObject(Distribution):
 
 
 class PlatformWheel(bdist_wheel):
-    """A wheel whose tag names the platform alone."""
+    """A wheel whose tag names only the platform."""
 
     def get_tag(self):
         return "py3", "none", super().get_tag()[2]

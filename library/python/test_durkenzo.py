@@ -246,7 +246,7 @@ class Boards(unittest.TestCase):
 
 
 class Numbers(unittest.TestCase):
-    """Those that their type of C doesn't have are refused: none stands for another one."""
+    """A number that its C type doesn't have is refused, and isn't taken for another number."""
 
     def setUp(self):
         self.board = Board(["zero", "one"], servers=2)
@@ -500,11 +500,11 @@ class Names(unittest.TestCase):
 
 
 class Shared(unittest.TestCase):
-    """A handle is used by one call at a time, whatever threads do."""
+    """Only one call at a time uses a handle, whatever threads do."""
 
     @contextlib.contextmanager
     def one_by_one(self, *calls):
-        """Has each of these calls of the library take its time, and sees that none is made of a handle meanwhile."""
+        """Slows these calls of the library down, and checks that no other call uses a handle meanwhile."""
         used, twice, lock = set(), [], threading.Lock()
 
         def slow(name, call):

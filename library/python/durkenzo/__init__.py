@@ -1,8 +1,8 @@
 """Shards that move between servers while each has one writer, decided by proved code.
 
-A Board keeps a body, any object, for each shard. A thread makes a Pass as one of the board's servers, and is admitted
-to a shard where that server executes the shard's requests and nobody else is admitted. The Permit then has the body
-for itself, without a lock, until it ends. The board's Control moves shards between servers meanwhile.
+A Board keeps a body, any object, for each shard. A thread makes a Pass as one of the board's servers. The pass is
+admitted to a shard if that server executes the shard's requests and nobody else is admitted. The Permit then has the
+body for itself, without a lock, until it ends. The board's Control moves shards between servers meanwhile.
 
     board = Board([[] for _ in range(4)], servers=2)
     board.control.assign(3, 1)
@@ -10,8 +10,8 @@ for itself, without a lock, until it ends. The board's Control moves shards betw
         with one.admit(3) as permit:
             permit.body.append("first")
 
-Which server is admitted, and that no two permits of a shard live at once, is decided by proved code. That a body isn't
-kept beyond its permit is up to the caller.
+Proved code decides which server is admitted, and that no two permits of a shard live at once. The caller must not keep
+a body beyond its permit.
 """
 from __future__ import annotations
 
@@ -48,8 +48,8 @@ R = TypeVar("R")
 
 
 class Permit(Generic[T]):
-    """The right to a shard's body, which nobody else has. Leave its `with` block, or call finish, to end the
-    admission; it ends with its pass too."""
+    """The right to a shard's body, which nobody else has. Leave its `with` block, or call finish, to end the admission.
+    It also ends with its pass."""
 
     def __init__(self, of: Pass[T], shard: int, body: T) -> None:
         self._pass, self._turn = of, of._turn
@@ -58,15 +58,15 @@ class Permit(Generic[T]):
 
     @property
     def body(self) -> T:
-        """The shard's body. Raises NotAdmitted once the admission has ended."""
+        """The shard's body. Raises NotAdmitted if the admission has ended."""
         if self._turn != self._pass._turn:
             raise NotAdmitted()
         return self._body
 
     @property
     def token(self) -> int:
-        """The fencing token of this admission: each later admission to the shard has a greater one. Tokens of a board
-        begin after its `after`. Raises NotAdmitted once the admission has ended."""
+        """The fencing token of this admission. Each later admission to the shard has a greater one. Tokens of a board
+        begin after its `after`. Raises NotAdmitted if the admission has ended."""
         token, of = ctypes.c_uint64(), self._pass
         with of._lock:
             if self._turn != of._turn:
@@ -76,14 +76,15 @@ class Permit(Generic[T]):
 
     @property
     def generation(self) -> int:
-        """The shard's generation at this admission. It begins at 0 in each board, so it is no fencing token."""
+        """The shard's generation at this admission. It begins at 0 in each board, so it isn't a fencing token."""
         with self._pass._lock:
             if self._turn != self._pass._turn:
                 raise NotAdmitted()
             return self._pass.look(self.shard).generation
 
     def finish(self) -> int:
-        """Ends the admission, and returns the shard's generation since then. Raises NotAdmitted where it has ended."""
+        """Ends the admission, and returns the shard's generation after it. Raises NotAdmitted if it has ended
+        already."""
         generation, of = ctypes.c_uint64(), self._pass
         with of._lock:
             if self._turn != of._turn:
@@ -102,7 +103,8 @@ class Permit(Generic[T]):
 
 
 class Note(_Kept, Generic[T]):
-    """What one pass tells another of its board: all that it had seen. It travels with a message, and is told once."""
+    """A note of all that a pass has seen, for another pass of its board. It travels with a message, and can be given to
+    only one pass."""
 
     def __init__(self, of: Pass[T]) -> None:
         super().__init__()
@@ -112,9 +114,9 @@ class Note(_Kept, Generic[T]):
 
 
 class Pass(_Kept, Generic[T]):
-    """What one thread at a time acts on a board with, as one server for good."""
+    """A pass acts on a board as one server, for its whole life. Only one thread may use it at a time."""
 
-    # The end of a permit, and of the pass, ends a turn: a permit is open in the turn in which it was made.
+    # A turn ends when a permit or the pass ends. A permit is open only in the turn in which it was made.
     _turn = 0
 
     def __init__(self, board: Board[T], server: int) -> None:
@@ -125,17 +127,17 @@ class Pass(_Kept, Generic[T]):
             board._passes.add(self)
 
     def look(self, shard: int) -> Record:
-        """Returns the shard's record, as the pass then sees it. Raises UnknownShard."""
+        """Returns the shard's record, as the pass now sees it. Raises UnknownShard."""
         parts = RecordParts()
         with self._lock:
             _check(LIBRARY.durkenzo_look(ctypes.byref(self._handle), shard, ctypes.byref(parts)))
         return Record.of(parts)
 
     def admit(self, shard: int, forwarded_by: int = 0) -> Permit[T]:
-        """Admits the pass's server to the shard, for a client's request or one that this server forwarded.
+        """Admits the pass's server to the shard, for a client's request or for one that this server forwarded.
 
         Raises NobodyOwns, IsPaused, NotExecutor, NotYet, IsAdmitted, Spent or Raced, with the record that was read;
-        UnknownShard; BadArgument where no server has that number; or WrongHandle where the pass has a permit.
+        UnknownShard; BadArgument if no server has that number; or WrongHandle if the pass has a permit.
         """
         number, parts = ctypes.c_uint64(), RecordParts()
         written = map(ctypes.byref, (number, parts))
@@ -146,8 +148,8 @@ class Pass(_Kept, Generic[T]):
         raise errors.error_of(code, Record.of(parts))
 
     def run(self, shard: int, work: Callable[[T], R], forwarded_by: int = 0) -> R:
-        """Admits the pass, again while another thread has the shard or was first, and returns what `work` makes of
-        the body."""
+        """Admits the pass, and returns the result of `work` on the body. Tries again while another thread has the shard
+        or was first."""
         while True:
             try:
                 permit = self.admit(shard, forwarded_by)
@@ -161,15 +163,16 @@ class Pass(_Kept, Generic[T]):
         return Note(self)
 
     def meet(self, note: Note[T]) -> None:
-        """Tells the pass all that the note tells. Raises WrongHandle where the note was told or the pass has a permit,
-        or BadArgument for what is no note of its board."""
+        """Tells the pass all that the note says. Raises WrongHandle if the note was given to a pass already or the pass
+        has a permit, or BadArgument if it isn't a note of its board."""
         if not isinstance(note, Note) or note._board is not self._board:
             raise BadArgument()
         with self._lock, note._lock:
             _check(LIBRARY.durkenzo_meet(ctypes.byref(self._handle), ctypes.byref(note._handle)))
 
     def close(self) -> None:
-        """Lets go what the library keeps for the pass, and ends its permit. Further calls raise WrongHandle."""
+        """Frees everything that the library keeps for the pass, and ends its permit. Further calls raise
+        WrongHandle."""
         with self._lock:
             self._turn += 1
             super().close()
@@ -178,7 +181,7 @@ class Pass(_Kept, Generic[T]):
 
 @dataclass(frozen=True)
 class Plan:
-    """Where shards are to go: pairs of a shard and a server; and the shards that fit no server in their turn."""
+    """A plan: pairs of a shard and the server to which it goes, and the shards that fit on no server in their turn."""
 
     moves: list[tuple[int, int]]
     left: list[int]
@@ -195,11 +198,12 @@ class Plan:
 
 
 class Control(Generic[T]):
-    """Moves the shards of a board between its servers. Threads may share it: each call takes the control's lock.
+    """Moves the shards of a board between its servers. Threads may share it, because each call takes the control's
+    lock.
 
-    A server restarts in this order: ask, approve within the caps, a migrate for each move of plan_drain, and stopped.
-    Its passes go then, and it begins anew, with back and a migrate home for each shard that left. Whoever gives it up
-    before calls back too."""
+    Restart a server in this order: ask, approve within the caps, a migrate for each move of plan_drain, and stopped.
+    Then its passes end, and it starts again, with back and a migrate home for each shard that left. To give up a
+    restart earlier, call back too."""
 
     def __init__(self, board: Board[T] | Service) -> None:
         self._board = board
@@ -223,15 +227,15 @@ class Control(Generic[T]):
         self._change(shard, ChangeKind.PREPARE_ADD_SHARD, server)
 
     def prepare_drop_shard(self, shard: int) -> None:
-        """Has the shard's owner stop executing, and forward to the next owner."""
+        """Makes the shard's owner stop executing, and forward to the next owner."""
         self._change(shard, ChangeKind.PREPARE_DROP_SHARD)
 
     def add_shard(self, shard: int) -> None:
-        """Makes the next owner the owner, to whom the previous one forwards."""
+        """Makes the next owner, to which the previous one forwards, the owner."""
         self._change(shard, ChangeKind.ADD_SHARD)
 
     def drop_shard(self, shard: int) -> None:
-        """Ends the migration, as the previous owner drops the shard."""
+        """Ends the migration: the previous owner drops the shard."""
         self._change(shard, ChangeKind.DROP_SHARD)
 
     def cancel(self, shard: int) -> None:
@@ -239,11 +243,11 @@ class Control(Generic[T]):
         self._change(shard, ChangeKind.CANCEL)
 
     def pause(self, shard: int) -> None:
-        """Has nobody execute the shard's requests."""
+        """Pauses the shard: no server executes its requests."""
         self._change(shard, ChangeKind.PAUSE)
 
     def resume(self, shard: int) -> None:
-        """Has the owner of a paused shard execute again."""
+        """Lets the owner of a paused shard execute again."""
         self._change(shard, ChangeKind.RESUME)
 
     def reassign(self, shard: int, server: int) -> None:
@@ -251,10 +255,10 @@ class Control(Generic[T]):
         self._change(shard, ChangeKind.REASSIGN, server)
 
     def migrate(self, shard: int, server: int) -> None:
-        """Moves the shard to this server by a whole migration, whose steps are tried again while the shard is
-        admitted: for ever where that admission doesn't end, as where the calling thread has the permit. The steps
-        before one that raises stay made, and leave the shard in the midst of its migration: cancel goes back from
-        before add_shard, and drop_shard ends what comes after it."""
+        """Moves the shard to this server by a whole migration. Each step is tried again while the shard is admitted,
+        and forever if that admission doesn't end, for example because the calling thread has the permit. If a step
+        raises, the steps before it stay made, and the shard stays in the midst of its migration: cancel goes back from
+        before add_shard, and drop_shard ends it after add_shard."""
         self._again(lambda: self.prepare_add_shard(shard, server))
         self._again(lambda: self.prepare_drop_shard(shard))
         self._again(lambda: self.add_shard(shard))
@@ -269,26 +273,26 @@ class Control(Generic[T]):
         self._restart(RestartKind.APPROVE, server)
 
     def stopped(self, server: int) -> None:
-        """Notes that the server was stopped for its restart, once it serves no shard."""
+        """Notes that the server was stopped for its restart. It must serve no shard."""
         self._restart(RestartKind.STOPPED, server)
 
     def back(self, server: int) -> None:
-        """Notes that the server is up again, also where it had failed, or where its restart is given up."""
+        """Notes that the server is up again, also if it had failed, or if its restart is given up."""
         self._restart(RestartKind.BACK, server)
 
     def fail(self, server: int) -> None:
-        """Notes that the server failed. That changes no shard: its own passes are admitted to what it owns until
-        pause, behind which reassign gives the shard another owner."""
+        """Notes that the server failed. This changes no shard: the server's own passes are admitted to the shards that
+        it owns until pause. After pause, reassign gives the shard another owner."""
         self._restart(RestartKind.FAIL, server)
 
     def plan_assign(self) -> Plan:
-        """Plans where the vacant shards go: each by number to the lowest server that it fits, earlier moves counted
-        as made. Nothing is moved. Raises NoMemory."""
+        """Plans where the vacant shards go: each, by number, to the lowest server on which it fits, with earlier moves
+        counted as made. Moves nothing. Raises NoMemory."""
         return self._plan(0)
 
     def plan_drain(self, server: int) -> Plan:
-        """Plans where the shards go that this server serves, to other servers. Nothing is moved. Raises UnknownServer,
-        BadArgument or NoMemory."""
+        """Plans to which other servers the shards of this server go. Moves nothing. Raises UnknownServer, BadArgument
+        or NoMemory."""
         if server == 0:
             raise BadArgument()
         return self._plan(server)
@@ -315,11 +319,11 @@ def _check_settings(code: int) -> None:
 
 
 class PassOpen(DurkenzoError):
-    """A pass of the board is open: close it first."""
+    """A pass of the board is open. Close it first."""
 
 
 class Board(_Kept, Generic[T]):
-    """A board: a body for each shard, and who may use it. Threads may share it: each call takes its lock."""
+    """A board: a body for each shard, and who may use it. Threads may share it, because each call takes its lock."""
 
     def __init__(
         self,
@@ -329,10 +333,10 @@ class Board(_Kept, Generic[T]):
         ceiling: int = MAX_GENERATION,
         after: int = 0,
     ) -> None:
-        """Makes a board with these bodies, 1 to 4,096, of servers 1 to this one, at most `restarts` of which
-        restart at once. Fencing tokens begin after `after`: each is greater, and at most `after + MAX_GENERATION`.
+        """Makes a board with these bodies, 1 to 4,096, and with the servers from 1 to this one. At most `restarts` of
+        them restart at once. Fencing tokens begin after `after`: each is greater, and at most `after + MAX_GENERATION`.
 
-        Raises NoShard, TooMany, BadArgument, BadBooks where there are no servers, BadCeiling, BadAfter or NoMemory.
+        Raises NoShard, TooMany, BadArgument, BadBooks if there are no servers, BadCeiling, BadAfter or NoMemory.
         """
         super().__init__()
         numbers, count = self._begin(bodies)
@@ -341,8 +345,9 @@ class Board(_Kept, Generic[T]):
 
     @classmethod
     def by_settings(cls, line: bytes, bodies: Iterable[T], after: int = 0) -> tuple[Board[T], Layout]:
-        """Makes the board that a line of settings says, but for its workers and how many requests a shard keeps, with
-        these bodies, as many as its shards; and its layout. Raises BadSettings, BadCount, BadAfter or NoMemory."""
+        """Makes the board of a line of settings, with these bodies, as many as its shards, and returns it with its
+        layout. Ignores the workers of the settings, and how many requests a shard keeps. Raises BadSettings, BadCount,
+        BadAfter or NoMemory."""
         board, layout = cls.__new__(cls), Layout.__new__(Layout)
         for kept in (board, layout):
             _Kept.__init__(kept)
@@ -353,9 +358,9 @@ class Board(_Kept, Generic[T]):
         return board, layout
 
     def _begin(self, bodies: Iterable[T]) -> tuple[ctypes.Array[ctypes.c_uint64], int]:
-        """Keeps the bodies, and returns their numbers, and how many they are."""
+        """Keeps the bodies, and returns their numbers and how many there are."""
         self._bodies = list(bodies)
-        # Those that aren't closed.
+        # The passes that aren't closed.
         self._passes: weakref.WeakSet[Pass[T]] = weakref.WeakSet()
         self.control: Control[T] = Control(self)
         count = len(self._bodies)
@@ -365,12 +370,12 @@ class Board(_Kept, Generic[T]):
         return len(self._bodies)
 
     def new_pass(self, server: int) -> Pass[T]:
-        """Returns a new pass, admitted as this server. Raises BadArgument, UnknownServer or NoMemory."""
+        """Returns a new pass, which acts as this server. Raises BadArgument, UnknownServer or NoMemory."""
         return Pass(self, server)
 
     def into_bodies(self) -> list[T]:
-        """Closes the board, and returns its bodies in the order of their shards. Raises PassOpen while a pass of it is
-        open, which leaves the board as it was, or WrongHandle if the board is closed."""
+        """Closes the board, and returns its bodies in the order of their shards. Raises PassOpen if a pass of it is
+        open, and then changes nothing, or WrongHandle if the board is closed."""
         with self._lock:
             if not self._handle.full:
                 raise WrongHandle()
@@ -381,11 +386,11 @@ class Board(_Kept, Generic[T]):
 
 
 class Layout(_Kept):
-    """How keys are given to shards: shard k has the keys from bound k on, up to the next bound. Threads may share it:
-    each call takes its lock."""
+    """A layout, which gives keys to shards: shard k has the keys from bound k on, up to the next bound. Threads may
+    share it, because each call takes its lock."""
 
     def __init__(self, bounds: Iterable[bytes]) -> None:
-        """Makes the layout with these bounds: 1 to 4,096 of at most 255 bytes, which rise from the empty one.
+        """Makes the layout with these bounds: 1 to 4,096 of at most 255 bytes. They must rise, from the empty one.
 
         Raises NoBound, FirstNotEmpty, NotRising, BoundTooLong, TooMany or NoMemory.
         """
@@ -401,14 +406,14 @@ class Layout(_Kept):
         return self._count
 
     def shard_of(self, key: bytes) -> int:
-        """Returns the shard of the key, which may be any bytes."""
+        """Returns the shard of the key. A key may be any bytes."""
         shard = ctypes.c_uint16()
         with self._lock:
             _check(LIBRARY.durkenzo_shard_of(ctypes.byref(self._handle), key, len(key), ctypes.byref(shard)))
         return shard.value
 
     def range(self, shard: int) -> tuple[bytes, bytes | None]:
-        """Returns the bound at which the shard begins, and that of the next shard, if there is one. Raises
+        """Returns the bound at which the shard begins, and the bound of the next shard, if there is one. Raises
         UnknownShard."""
         return self._bound(shard), self._bound(shard + 1) if shard + 1 < self._count else None
 
@@ -420,8 +425,8 @@ class Layout(_Kept):
 
 
 class Service(_Kept):
-    """A board of the sample service with the layout of its keys: texts and counts by key, of which the library executes
-    the requests itself. Threads may share it: each call takes its lock."""
+    """A board of the sample service with the layout of its keys: texts and counts by key. The library itself executes
+    the requests. Threads may share it, because each call takes its lock."""
 
     def __init__(
         self,
@@ -431,10 +436,10 @@ class Service(_Kept):
         restarts: int = 1,
         ceiling: int = MAX_GENERATION,
     ) -> None:
-        """Makes a board with a shard for each of the layout's, each of which keeps at most `kept` requests between
-        checkpoints, of servers 1 to this one, at most `restarts` of which restart at once.
+        """Makes a board with a shard for each one of the layout, and with the servers from 1 to this one. Each shard
+        keeps at most `kept` requests between checkpoints. At most `restarts` servers restart at once.
 
-        Raises BadArgument, BadBooks where there are no servers, BadCeiling or NoMemory.
+        Raises BadArgument, BadBooks if there are no servers, BadCeiling or NoMemory.
         """
         super().__init__()
         self._begin(layout)
@@ -443,7 +448,7 @@ class Service(_Kept):
 
     @classmethod
     def by_settings(cls, line: bytes) -> Service:
-        """Makes the board that a line of settings says, but for its workers. Raises BadSettings or NoMemory."""
+        """Makes the board of a line of settings. Ignores its workers. Raises BadSettings or NoMemory."""
         service, layout, count = cls.__new__(cls), Layout.__new__(Layout), ctypes.c_size_t()
         for kept in (service, layout):
             _Kept.__init__(kept)

@@ -1,4 +1,4 @@
-"""What the library keeps for objects."""
+"""The handles that the library keeps for objects."""
 from __future__ import annotations
 
 import ctypes
@@ -21,18 +21,20 @@ def check(code: int, parts: RecordParts | None = None) -> None:
 
 
 class Kept:
-    """What the library keeps for an object, which lets it go at the end: of its `with` block, or of its life.
+    """A handle that the library keeps for an object. It is freed at the end of the object's `with` block, or of its
+    life.
 
-    A handle is used by one call at a time, and other threads run while ctypes is in a call. So whoever gives the handle
-    to the library, or puts another one in its place, holds the lock of its object; a new object needs none. Of several
-    locks that of a pass is taken first, then a layout's, and that of a note, an envelope or an answer last.
+    Only one call at a time may use a handle, but other threads run while ctypes is in a call. So a method that gives
+    the handle to the library, or replaces it, must hold the lock of its object; a new object needs none. If a method
+    takes several locks, it must take the lock of a pass first, then a layout's, and the lock of a note, an envelope or
+    an answer last.
     """
 
     def __init__(self) -> None:
         self._handle, self._lock = Handle(), threading.RLock()
 
     def close(self) -> None:
-        """Lets go what the library keeps for this. An admission ends. Further calls raise WrongHandle."""
+        """Frees everything that the library keeps for this. Ends an admission. Further calls raise WrongHandle."""
         with self._lock:
             LIBRARY.durkenzo_close(ctypes.byref(self._handle))
 
@@ -43,6 +45,6 @@ class Kept:
         self.close()
 
     def __del__(self) -> None:
-        # What was refused before it was made has no lock, and keeps nothing.
+        # An object that was refused before it was made has no lock, and keeps nothing.
         if hasattr(self, "_lock"):
             self.close()

@@ -15,7 +15,7 @@ NAME = "libdurkenzo.so"
 
 
 class Number:
-    """A number as C takes it. One that its type doesn't have is refused, where ctypes would make another one of it."""
+    """A number as C takes it. A number outside its type is refused, because ctypes would turn it into another one."""
 
     def __init__(self, c_type: Any, fault: type[DurkenzoError] = BadArgument) -> None:
         self.c_type, self._fault = c_type, fault
@@ -23,13 +23,13 @@ class Number:
         self._low, self._end = (-half, half) if c_type(-1).value < 0 else (0, 2 * half)
 
     def check(self, number: int) -> None:
-        """Raises the fault where the type doesn't have this number."""
+        """Raises the fault if the type doesn't have this number."""
         if not self._low <= number < self._end:
             raise self._fault()
 
 
 class Handle(ctypes.Structure):
-    """What the library keeps between calls. It begins as zeros, and is used by one call at a time."""
+    """A handle, which the library keeps between calls. It begins as zeros, and only one call at a time may use it."""
 
     _fields_ = [("full", ctypes.c_bool), ("owned", ctypes.c_void_p)]
 
@@ -47,13 +47,13 @@ class Part(ctypes.Structure):
 
 
 class ReplyParts(ctypes.Structure):
-    """A reply of a map, or what a pair of it holds."""
+    """A reply of a map, or the value of a pair."""
 
     _fields_ = [("count", i64), ("length", ctypes.c_size_t), ("kind", u8)]
 
 
 class AnswerParts(ctypes.Structure):
-    """An answer but for its reply."""
+    """An answer without its reply."""
 
     _fields_ = [("number", u64), ("place", u64), ("server", u16)]
 
@@ -65,21 +65,21 @@ class RouteParts(ctypes.Structure):
 
 
 class SentParts(ctypes.Structure):
-    """An envelope but for its request and its note."""
+    """An envelope without its request and its note."""
 
     _fields_ = [("number", u64), ("shard", u16), ("from", u16), ("hops", u8)]
     _numbers = [Number(it) for _, it in _fields_]
 
     @classmethod
     def of(cls, *parts: int) -> SentParts:
-        """Returns these parts. Raises BadArgument where the type of one doesn't have it."""
+        """Returns these parts. Raises BadArgument if the type of a part doesn't have it."""
         for it, part in zip(cls._numbers, parts):
             it.check(part)
         return cls(*parts)
 
 
 def found() -> str:
-    """Returns where the library is."""
+    """Returns the path of the library."""
     here = pathlib.Path(__file__).resolve().parent
     folders = [os.environ.get("DURKENZO_SO"), here, here.parent.parent / "build"]
     for folder in filter(None, folders):
@@ -137,7 +137,7 @@ def calls() -> dict[str, list[Any]]:
 
 
 def typed(call: Any, types: list[Any]) -> Callable[..., int]:
-    """Returns the call with the types of its arguments. It isn't made with a number that its type doesn't have."""
+    """Returns the call with the types of its arguments. It refuses a number outside its type."""
     call.argtypes, call.restype = [it.c_type if isinstance(it, Number) else it for it in types], u32
     checks = [(at, it.check) for at, it in enumerate(types) if isinstance(it, Number)]
 
@@ -150,7 +150,8 @@ def typed(call: Any, types: list[Any]) -> Callable[..., int]:
 
 
 def loaded() -> ctypes.CDLL:
-    """Returns the library with the types of its calls. Other threads run beside a call; Kept keeps them off handles."""
+    """Returns the library with the types of its calls. Other threads run beside a call; Kept keeps them from using the
+    same handle."""
     library = ctypes.CDLL(found())
     for name, types in calls().items():
         name = f"durkenzo_{name}"

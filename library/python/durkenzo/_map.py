@@ -1,4 +1,4 @@
-"""Texts and counts by key: the sample service, proved, as a body of yours."""
+"""Texts and counts by key: the sample service, proved, as a body for your shards."""
 from __future__ import annotations
 
 import ctypes
@@ -14,55 +14,54 @@ _REFUSALS = {ReplyKind.WRONG_KIND: WrongKind, ReplyKind.OVERFLOW: CountOverflow,
 
 class Map(Kept):
     """A map from keys of 1 to 255 bytes to texts of at most 65,535 bytes and counts of 64 bits, in the order of the
-    keys. A call that raises changes nothing. Each raises KeyEmpty, KeyTooLong or NoMemory. Threads may share it: each
-    call takes its lock."""
+    keys. A call that raises changes nothing. Each call may raise KeyEmpty, KeyTooLong or NoMemory. Threads may share
+    the map, because each call takes its lock."""
 
     def __init__(self) -> None:
-        # What the last request was replied, under the lock of the map.
+        # The reply to the last request, under the lock of the map.
         self._reply = Handle()
         super().__init__()
         check(LIBRARY.durkenzo_map(ctypes.byref(self._handle)))
 
     def __len__(self) -> int:
-        """Returns how many keys hold something."""
+        """Returns how many keys have a value."""
         length = ctypes.c_uint64()
         with self._lock:
             check(LIBRARY.durkenzo_map_length(ctypes.byref(self._handle), ctypes.byref(length)))
         return length.value
 
     def get(self, key: bytes) -> Value | None:
-        """Returns the text or the count that the key holds, or None."""
+        """Returns the key's text or count, or None."""
         with self._lock:
             parts = self._ask(RequestKind.GET, key)
             return None if parts.kind == ReplyKind.NOTHING else value_in(self._reply, parts)
 
     def put(self, key: bytes, text: bytes) -> None:
-        """Has the key hold the text, in place of the text that it held. Raises WrongKind where the key holds a count,
-        and TextTooLong."""
+        """Gives the key this text, in place of its text. Raises WrongKind if the key has a count, and TextTooLong."""
         self._ask(RequestKind.PUT, key, text)
 
     def append(self, key: bytes, tail: bytes) -> None:
-        """Has the key hold its text followed by this one; a key that holds nothing counts as the empty text. Raises
-        WrongKind and TextTooLong."""
+        """Appends this text to the key's text; a key without a value counts as the empty text. Raises WrongKind and
+        TextTooLong."""
         self._ask(RequestKind.APPEND, key, tail)
 
     def add(self, key: bytes, amount: int) -> int:
-        """Adds to the key's count, and returns the sum; a key that holds nothing counts as 0. Raises WrongKind where
-        the key holds a text, and CountOverflow."""
+        """Adds to the key's count, and returns the sum; a key without a value counts as 0. Raises WrongKind if the key
+        has a text, and CountOverflow."""
         _AMOUNT.check(amount)
         return self._ask(RequestKind.ADD, key, amount=amount).count
 
     def remove(self, key: bytes) -> bool:
-        """Has the key hold nothing. Returns whether it held something."""
+        """Removes the key's value. Returns whether it had one."""
         return self._ask(RequestKind.REMOVE, key).kind == ReplyKind.DONE
 
     def scan(self, low: bytes, high: bytes, most: int = 100) -> list[tuple[bytes, Value]]:
-        """Returns the first pairs with keys from `low` on and below `high`, `most` of them and at most 100."""
+        """Returns the first `most` pairs, and at most 100, with keys at or above `low` and below `high`."""
         with self._lock:
             return pairs_in(self._reply, self._ask(RequestKind.SCAN, low, high, most))
 
     def close(self) -> None:
-        """Lets go what the library keeps for the map. Further calls raise WrongHandle."""
+        """Frees everything that the library keeps for the map. Further calls raise WrongHandle."""
         with self._lock:
             super().close()
             LIBRARY.durkenzo_close(ctypes.byref(self._reply))

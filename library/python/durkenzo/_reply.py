@@ -1,4 +1,4 @@
-"""What the sample service is asked, and what a handle keeps as its reply."""
+"""Requests to the sample service, and the replies that handles keep."""
 from __future__ import annotations
 
 import ctypes
@@ -12,13 +12,13 @@ Value = Union[bytes, int]
 
 
 class RequestKind(IntEnum):
-    """What a request is for."""
+    """The kind of a request."""
 
     GET, PUT, APPEND, ADD, REMOVE, SCAN = range(1, 7)
 
 
 class ReplyKind(IntEnum):
-    """What was replied: from WRONG_KIND on nothing has changed."""
+    """The kind of a reply. From WRONG_KIND on, the request has changed nothing."""
 
     NOTHING, DONE, TEXT, COUNT, PAIRS, WRONG_KIND, OVERFLOW, TOO_LONG = range(8)
 
@@ -43,7 +43,7 @@ def _pair(handle: Handle, at: int) -> tuple[bytes, Value]:
 
 
 def _written(handle: Handle, call: str, room: int, *place: int) -> bytes:
-    """Returns what the call writes into so many bytes."""
+    """Returns the bytes that the call writes into a buffer of this size."""
     into, length = ctypes.create_string_buffer(room or 1), ctypes.c_size_t()
     write = getattr(LIBRARY, f"durkenzo_{call}")
     check(write(ctypes.byref(handle), *place, into, room, ctypes.byref(length)))

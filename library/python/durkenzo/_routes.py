@@ -1,4 +1,4 @@
-"""Published routes: where clients send requests."""
+"""Published routes, by which clients send requests."""
 from __future__ import annotations
 
 import ctypes
@@ -15,7 +15,7 @@ class Looks(Protocol):
     """A pass of a board."""
 
     def look(self, shard: int) -> Record:
-        """Returns the shard's record, as the pass then sees it."""
+        """Returns the shard's record, as the pass now sees it."""
 
 
 @dataclass(frozen=True)
@@ -27,28 +27,28 @@ class Route:
 
 
 class Publisher(Kept):
-    """The publisher of a map of routes. Threads may share it: each call takes its lock, and reading by a Router takes
-    none of it.
+    """The publisher of a map of routes. Threads may share it, because each call takes its lock; a Router reads without
+    that lock.
 
-    Nothing publishes by itself. In a migration the new owner is published between `add_shard` and `drop_shard`, as
-    until the latter the previous owner forwards to it."""
+    Nothing publishes by itself. In a migration, publish the new owner between `add_shard` and `drop_shard`, because the
+    previous owner forwards to it until then."""
 
     def __init__(self, count: int) -> None:
-        """Makes the map of so many shards, 1 to 4,096, of which none has a route. Raises NoShard, TooMany, NoMemory,
-        or BadArgument for a number that C has no type for."""
+        """Makes the map of this many shards, 1 to 4,096, of which none has a route yet. Raises NoShard, TooMany,
+        NoMemory, or BadArgument for a number that C has no type for."""
         super().__init__()
         check(LIBRARY.durkenzo_publisher(ctypes.byref(self._handle), count))
 
     def new_router(self) -> Router:
-        """Returns a new router of the map, which has seen all that was published. Raises NoMemory."""
+        """Returns a new router of the map, which has seen all publications so far. Raises NoMemory."""
         return Router(self)
 
     def publish(self, by: Looks, shard: int) -> Route:
-        """Publishes the shard's owner at its generation, as the pass sees it, and returns this route. Give it passes
-        of one board alone: nothing here tells boards apart.
+        """Publishes the shard's owner at its generation, as the pass sees it, and returns this route. Give it only
+        passes of one board, because it can't tell boards apart.
 
-        Raises UnknownShard if the board or the map has no such shard, WrongPhase if nobody owns it, and OldRoute if
-        its last route is as new. The map is then as it was.
+        Raises UnknownShard if the board or the map has no such shard, WrongPhase if nobody owns it, and OldRoute if its
+        last route is at least as new. The map then doesn't change.
         """
         record = by.look(shard)
         if record.phase == Phase.VACANT:
@@ -59,8 +59,8 @@ class Publisher(Kept):
 
 
 class Router(Kept):
-    """Reads a map of routes. Which route it reads of a shard may be old, and never becomes older. It reads on after the
-    end of its publisher. Threads may share it: each call takes its lock."""
+    """Reads a map of routes. The route that it reads of a shard may be old, but never becomes older. It can still read
+    after the end of its publisher. Threads may share it, because each call takes its lock."""
 
     def __init__(self, of: Publisher) -> None:
         super().__init__()
@@ -68,9 +68,9 @@ class Router(Kept):
             check(LIBRARY.durkenzo_router(ctypes.byref(of._handle), ctypes.byref(self._handle)))
 
     def route(self, shard: int) -> Route | None:
-        """Returns the shard's route, if it has one: the last one of the publications that the router has then seen,
-        which begin with all that it had seen before. A shard that the map hasn't has no route; UnknownShard is raised
-        for a number that no shard has."""
+        """Returns the shard's route, if it has one: the last one among the publications that the router has now seen,
+        which include all that it had seen before. A shard that isn't in the map has no route; raises UnknownShard only
+        for a number that no shard can have."""
         parts = RouteParts()
         with self._lock:
             check(LIBRARY.durkenzo_route(ctypes.byref(self._handle), shard, ctypes.byref(parts)))

@@ -1,4 +1,4 @@
-"""A board of the sample service, whose requests the library executes itself."""
+"""A board of the sample service. The library itself executes its requests."""
 from __future__ import annotations
 
 import ctypes
@@ -20,19 +20,19 @@ FORWARD = 60
 
 
 class WrongShard(DurkenzoError):
-    """The request's key is of another shard."""
+    """The request's key belongs to another shard."""
 
 
 class TooManyHops(DurkenzoError):
-    """The request was forwarded as often as it may be."""
+    """The request was already forwarded as often as it may be."""
 
 
 class KeptFull(DurkenzoError):
-    """The shard keeps as many requests as it may; make a checkpoint."""
+    """The shard already keeps as many requests as it may. Make a checkpoint."""
 
 
 class BadSettings(DurkenzoError):
-    """The line of settings breaks a rule. `rule` is the first one's name, as docs/SETTINGS.md has it."""
+    """The line of settings breaks a rule. `rule` is the name of the first one, as in docs/SETTINGS.md."""
 
     def __init__(self, rule: str) -> None:
         super().__init__()
@@ -61,7 +61,7 @@ _REFUSALS = {61: WrongShard, 62: TooManyHops, 63: KeptFull}
 
 @dataclass(frozen=True)
 class Request:
-    """What is asked of the service. Keys have 1 to 255 bytes, texts at most 65,535."""
+    """A request to the service. Keys have 1 to 255 bytes, and texts at most 65,535."""
 
     kind: RequestKind
     key: bytes
@@ -70,38 +70,38 @@ class Request:
 
     @staticmethod
     def get(key: bytes) -> Request:
-        """What does the key hold?"""
+        """Returns a request for the key's value."""
         return Request(RequestKind.GET, key)
 
     @staticmethod
     def put(key: bytes, text: bytes) -> Request:
-        """The key is to hold the text, in place of the text that it held."""
+        """Returns a request to give the key this text, in place of its text."""
         return Request(RequestKind.PUT, key, text)
 
     @staticmethod
     def append(key: bytes, tail: bytes) -> Request:
-        """The key is to hold its text followed by this one."""
+        """Returns a request to append this text to the key's text."""
         return Request(RequestKind.APPEND, key, tail)
 
     @staticmethod
     def add(key: bytes, amount: int) -> Request:
-        """The number is to be added to the key's count."""
+        """Returns a request to add the number to the key's count."""
         return Request(RequestKind.ADD, key, amount=amount)
 
     @staticmethod
     def remove(key: bytes) -> Request:
-        """The key is to hold nothing."""
+        """Returns a request to remove the key's value."""
         return Request(RequestKind.REMOVE, key)
 
     @staticmethod
     def scan(low: bytes, high: bytes, most: int = 100) -> Request:
-        """Which keys hold what, from the first of these on and below the second?"""
+        """Returns a request for pairs, with keys at or above the first of these and below the second."""
         return Request(RequestKind.SCAN, low, high, most)
 
 
 @dataclass(frozen=True)
 class Reply:
-    """What the service replied: its kind, and the text, the count or the pairs."""
+    """A reply of the service: its kind, and the text, the count or the pairs."""
 
     kind: ReplyKind
     value: Union[Value, list[tuple[bytes, Value]], None] = None
@@ -109,8 +109,8 @@ class Reply:
 
 @dataclass(frozen=True)
 class Sent:
-    """An envelope but for its request and its note, as plain fields that travel as bytes: its number, its shard, the
-    server that forwarded it, or 0 where it came directly, and how often it was forwarded."""
+    """An envelope without its request and its note, as plain fields that travel as bytes: its number, its shard, the
+    server that forwarded it, or 0 if it came directly, and how often it was forwarded."""
 
     number: int
     shard: int
@@ -118,7 +118,7 @@ class Sent:
     hops: int = 0
 
     def to_bytes(self) -> bytes:
-        """Returns the fields as 13 bytes, each with its highest byte first. Raises BadArgument where one has no room
+        """Returns the fields as 13 bytes, each with its highest byte first. Raises BadArgument if a number is too large
         for its field."""
         fields = (self.number, self.shard, self.forwarded_by, self.hops)
         SentParts.of(*fields)
@@ -126,7 +126,8 @@ class Sent:
 
     @staticmethod
     def from_bytes(text: bytes) -> Sent:
-        """Returns what to_bytes made the bytes of. Raises BadArgument where they tell no envelope."""
+        """Returns the fields of these bytes, which to_bytes made. Raises BadArgument if the bytes aren't those of an
+        envelope."""
         if len(text) != _FIELDS.size:
             raise BadArgument()
         sent = Sent(*_FIELDS.unpack(text))
@@ -136,12 +137,13 @@ class Sent:
 
 
 _FIELDS = struct.Struct(">QHHB")
-# How often a direct envelope was forwarded, and how often another one.
+# How often a direct envelope was forwarded, and how often a forwarded one may have been.
 _HOPS = (range(1), range(1, MOST_HOPS + 1))
 
 
 class Envelope(Kept):
-    """A request on its way, with what its sender had seen. A host that forwards it hands on just this."""
+    """A request on its way, with a note of all that its sender had seen. A host that forwards it must pass on just
+    this."""
 
     def __init__(self, service: Service) -> None:
         super().__init__()
@@ -149,7 +151,7 @@ class Envelope(Kept):
 
     @property
     def sent(self) -> Sent:
-        """The envelope but for its request and its note: what goes with the request to another process, where
+        """The envelope without its request and its note. Send it with the request to another process, where
         ServicePass.received makes the envelope again."""
         parts = SentParts()
         with self._lock:
@@ -158,26 +160,26 @@ class Envelope(Kept):
 
     @property
     def shard(self) -> int:
-        """The shard that it is for."""
+        """The shard of the request."""
         return self.sent.shard
 
     @property
     def hops(self) -> int:
-        """How often it was forwarded, 0 to 4."""
+        """How often the envelope was forwarded, 0 to 4."""
         return self.sent.hops
 
     @property
     def forwarded_by(self) -> int:
-        """The server that forwarded it, or 0 where it came directly."""
+        """The server that forwarded the envelope, or 0 if it came directly."""
         return self.sent.forwarded_by
 
 
 class Answer(Kept):
-    """The answer to a request, and what its server had then seen."""
+    """The answer to a request, with a note of all that its server had then seen."""
 
     def __init__(self, envelope: Envelope) -> None:
         super().__init__()
-        # Under the lock of the envelope, which then keeps nothing.
+        # Must be made under the lock of the envelope, which then keeps nothing.
         self._service = envelope._service
         self._handle, envelope._handle = envelope._handle, self._handle
         parts, reply = AnswerParts(), ReplyParts()
@@ -193,14 +195,15 @@ class Answer(Kept):
 
 @dataclass(frozen=True)
 class Forward:
-    """The envelope goes on to this server, with one hop more."""
+    """The envelope must go on to this server, with one hop more."""
 
     to: int
     envelope: Envelope
 
 
 class ServicePass(Kept):
-    """What one thread at a time serves with, as one server for good, and makes envelopes."""
+    """A pass that serves as one server, for its whole life, and makes envelopes. Only one thread may use it at a
+    time."""
 
     def __init__(self, service: Service, server: int) -> None:
         super().__init__()
@@ -209,7 +212,7 @@ class ServicePass(Kept):
             check(LIBRARY.durkenzo_pass(ctypes.byref(service._handle), ctypes.byref(self._handle), server))
 
     def look(self, shard: int) -> Record:
-        """Returns the shard's record, as the pass then sees it. Raises UnknownShard."""
+        """Returns the shard's record, as the pass now sees it. Raises UnknownShard."""
         parts = RecordParts()
         with self._lock:
             check(LIBRARY.durkenzo_look(ctypes.byref(self._handle), shard, ctypes.byref(parts)))
@@ -221,8 +224,8 @@ class ServicePass(Kept):
         return self.received(Sent(number, self._service.layout.shard_of(request.key)), request)
 
     def received(self, sent: Sent, request: Request) -> Envelope:
-        """Returns the envelope that came so with this request, as Envelope.sent told another process, with a note of
-        all that the pass has seen. Raises KeyEmpty, KeyTooLong, BadArgument or NoMemory."""
+        """Returns the envelope that came with this request from another process, whose Envelope.sent gave these fields,
+        with a note of all that the pass has seen. Raises KeyEmpty, KeyTooLong, BadArgument or NoMemory."""
         envelope, it = Envelope(self._service), request
         parts = SentParts.of(sent.number, sent.shard, sent.forwarded_by, sent.hops)
         texts = (it.key, len(it.key), it.other, len(it.other))
@@ -232,11 +235,12 @@ class ServicePass(Kept):
         return envelope
 
     def serve(self, envelope: Envelope) -> Union[Answer, Forward]:
-        """Has the pass's server serve the envelope: it executes the request, or names the server that the envelope
-        goes to. Raises why it does neither, and the envelope is as it was, but that it may have seen more: NobodyOwns,
-        IsPaused, NotExecutor, NotYet, IsAdmitted, Spent or Raced, with the record that was read; WrongShard or
-        TooManyHops; KeptFull or NoMemory, before which the server was admitted, and its admission ended with nothing,
-        which took 2 of the shard's generations; or BadArgument for what is no envelope of its board."""
+        """Serves the envelope at the pass's server: executes the request and returns the answer, or returns the server
+        to which the envelope must go on. If it does neither, it raises the reason, and the envelope stays the same, but
+        it may have seen more. The reasons are NobodyOwns, IsPaused, NotExecutor, NotYet, IsAdmitted, Spent or Raced,
+        with the record that was read; WrongShard or TooManyHops; KeptFull or NoMemory, if the server was admitted and
+        its admission ended with nothing, which took 2 of the shard's generations; or BadArgument if this isn't an
+        envelope of its board."""
         if not isinstance(envelope, Envelope) or envelope._service is not self._service:
             raise BadArgument()
         to, read, layout = ctypes.c_uint16(), RecordParts(), self._service.layout
@@ -252,18 +256,18 @@ class ServicePass(Kept):
         raise error_of(code, Record.of(read))
 
     def hear(self, answer: Answer) -> None:
-        """Tells the pass all that the answer has seen, so that what it asks next comes after the answered request.
-        Raises WrongHandle where it was heard, or BadArgument for what is no answer of its board."""
+        """Tells the pass all that the answer has seen, so that its next requests come after the answered one. Raises
+        WrongHandle if a pass was told already, or BadArgument if it isn't an answer of its board."""
         if not isinstance(answer, Answer) or answer._service is not self._service:
             raise BadArgument()
         with self._lock, answer._lock:
             check(LIBRARY.durkenzo_meet(ctypes.byref(self._handle), ctypes.byref(answer._handle)))
 
     def checkpoint(self, shard: int) -> int:
-        """Makes the shard's state its base, so that it keeps no request, and returns its generation since then. Raises
+        """Makes the shard's state its base, so that it keeps no request, and returns its generation after that. Raises
         UnknownShard; NobodyOwns, IsPaused, NotExecutor, NotYet, IsAdmitted, Spent or Raced, with the record that was
-        read; or NoMemory, before which the pass was admitted, and its admission ended with nothing, which took 2 of
-        the shard's generations."""
+        read; or NoMemory, if the pass was admitted and its admission ended with nothing, which took 2 of the shard's
+        generations."""
         generation, read = ctypes.c_uint64(), RecordParts()
         with self._lock:
             at = ctypes.byref(self._handle)

@@ -5,7 +5,7 @@ from .record import Record
 
 
 class DurkenzoError(Exception):
-    """A call was refused. `record` is what was read of the shard, where a record refused it."""
+    """A call was refused. If a shard's record refused it, `record` is the record that was read."""
 
     code: int | None = 0
 
@@ -22,13 +22,13 @@ class WrongHandle(DurkenzoError):
 
 
 class BadArgument(DurkenzoError):
-    """A server's number isn't 1 to 4,095, or another argument is out of bounds."""
+    """A server's number isn't 1 to 4,095, or another argument is out of range."""
 
     code = 2
 
 
 class NoMemory(DurkenzoError):
-    """Memory was refused."""
+    """Out of memory."""
 
     code = 3
 
@@ -58,7 +58,7 @@ class BadBooks(DurkenzoError):
 
 
 class BadCount(DurkenzoError):
-    """The bodies are as many as the shards of the settings."""
+    """The number of bodies isn't the number of shards of the settings."""
 
     code = 9
 
@@ -100,7 +100,7 @@ class Raced(DurkenzoError):
 
 
 class BadAfter(DurkenzoError):
-    """Fencing tokens begin after at most 9,223,371,968,135,299,072."""
+    """Fencing tokens begin after a number of at most 9,223,371,968,135,299,072."""
 
     code = 16
 
@@ -274,7 +274,7 @@ class OldRoute(DurkenzoError):
 
 
 class WrongKind(DurkenzoError):
-    """The key holds a count where the request is for a text, or a text where it is for a count."""
+    """The key holds a count and the request is for a text, or the other way round."""
 
     code = None
 
@@ -356,7 +356,7 @@ _BY_CODE = {it.code: it for it in DurkenzoError.__subclasses__()}
 
 
 def error_of(code: int, record: Record | None) -> DurkenzoError:
-    """Returns the exception of a code, with the record where the library wrote one."""
+    """Returns the exception of a code, with the record if the library wrote one."""
     error = _BY_CODE.get(code, OtherCode)(record if code in _READ else None)
     error.code = code
     return error

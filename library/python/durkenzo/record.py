@@ -24,8 +24,7 @@ class Phase(enum.IntEnum):
 
 @dataclass(frozen=True)
 class Record:
-    """What the board holds for a shard. Servers are 0 where there is none; `other` is the next or the previous
-    owner."""
+    """The record of a shard on its board. A server is 0 if there is none; `other` is the next or the previous owner."""
 
     phase: Phase
     owner: int
@@ -35,5 +34,5 @@ class Record:
 
     @staticmethod
     def of(parts: RecordParts) -> Record:
-        """Returns the record of what the library wrote."""
+        """Returns the record that the library wrote."""
         return Record(Phase(parts.phase), parts.owner, parts.other, parts.admitted, parts.generation)

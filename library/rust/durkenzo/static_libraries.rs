@@ -1,15 +1,15 @@
-//! What the build scripts of the library's crates share: they find the static libraries, and build nothing.
+//! Shared code of the library crates' build scripts. It finds the static libraries, and builds nothing.
 use std::path::PathBuf;
 use std::{env, fmt, process};
 
 /// The variable that names the folder of the libraries.
 const NAMED: &str = "DURKENZO_LIB";
-/// The toolchain's C library, which each of ours needs.
+/// The toolchain's C library, which each of our libraries needs.
 const OF_THE_KIT: &str = "libc_c";
 /// The file beside libraries that weren't proved.
 const MARK: &str = "UNPROVED";
 
-/// What makes a library that isn't there.
+/// How to make a missing library.
 const HOW: &str =
     ", and a build script builds none. Build the libraries first, in a clone of Durkenzo:
 
@@ -18,7 +18,7 @@ const HOW: &str =
 
 Or unpack an archive of ./dist, and have DURKENZO_LIB name its folder lib/durkenzo.";
 
-/// Why nothing is linked.
+/// Why nothing can be linked.
 pub enum LinkFault {
     /// The libraries are machine code of another target.
     Target(String),
@@ -58,15 +58,16 @@ fn kit() -> Option<PathBuf> {
     Some(rt.canonicalize().ok()?.parent()?.parent()?.join("c"))
 }
 
-/// Returns where the crate that makes the library leaves it once it is proved, if this is in the repository.
+/// Returns the folder in which the library's own crate leaves it once it is proved, if this is a checkout of the
+/// repository.
 fn proved(library: &str) -> Option<PathBuf> {
     let here = PathBuf::from(env::var_os("CARGO_MANIFEST_DIR").expect("cargo sets it"));
     let folder = here.ancestors().nth(3)?.join("crates").join(library);
     folder.is_dir().then(|| folder.join("out"))
 }
 
-/// Returns where the library may be: in the folder that is named, or where it was proved; and the toolchain's in its
-/// own.
+/// Returns the folders in which the library may be: the folder that is named, or the one where it was proved. The
+/// toolchain's library is in a folder of its own.
 fn folders(library: &str) -> Vec<PathBuf> {
     let first = env::var_os(NAMED)
         .map(PathBuf::from)
@@ -75,7 +76,7 @@ fn folders(library: &str) -> Vec<PathBuf> {
     first.into_iter().chain(last).collect()
 }
 
-/// Links the library; returns whether it was proved.
+/// Links the library. Returns whether it was proved.
 fn linked(library: &str) -> Result<bool, LinkFault> {
     let (folders, name) = (folders(library), format!("lib{library}.a"));
     let Some(folder) = folders.iter().find(|it| it.join(&name).is_file()) else {
@@ -87,7 +88,7 @@ fn linked(library: &str) -> Result<bool, LinkFault> {
     Ok(!folder.join(MARK).is_file())
 }
 
-/// Links these libraries and the toolchain's; returns whether they were proved. On docs.rs nothing is linked.
+/// Links these libraries and the toolchain's. Returns whether they were proved. On docs.rs nothing is linked.
 fn all_linked(libraries: &[&str]) -> Result<bool, LinkFault> {
     if env::var_os("DOCS_RS").is_some() {
         return Ok(true);

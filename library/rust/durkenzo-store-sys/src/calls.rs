@@ -1,8 +1,8 @@
-//! The calls themselves, as C declares them: what each promises stands in `durkenzo_store.h`, `durkenzo_control.h`
-//! and `durkenzo_permit.h`.
+//! The calls themselves, as C declares them. `durkenzo_store.h`, `durkenzo_control.h` and `durkenzo_permit.h` say what
+//! each one promises.
 #![allow(missing_docs)]
 
-/// What keeps a proved value.
+/// Room for a proved value.
 #[repr(C)]
 #[derive(Debug)]
 pub struct Handle {
@@ -11,14 +11,14 @@ pub struct Handle {
 }
 
 impl Handle {
-    /// One that keeps nothing: bytes of 0.
+    /// Returns a handle that keeps nothing: all its bytes are 0.
     pub fn empty() -> Handle {
         let (full, owned) = (false, std::ptr::null_mut());
         Handle { full, owned }
     }
 }
 
-/// A reply: its kind, and what goes with it.
+/// A reply: its kind, and the values that belong to this kind.
 #[repr(C)]
 #[derive(Clone, Copy, Default, Debug, PartialEq, Eq)]
 pub struct Reply {
@@ -26,7 +26,7 @@ pub struct Reply {
     pub kind: u8,
 }
 
-/// Where a request goes on.
+/// The server to which a request must go on.
 #[repr(C)]
 #[derive(Clone, Copy, Default, Debug)]
 pub struct Forward {
@@ -34,7 +34,7 @@ pub struct Forward {
     pub hops: u8,
 }
 
-/// What a server's transaction compares, and how much it writes.
+/// The numbers of a server's transaction: the revisions that it compares, and how much it writes.
 #[repr(C)]
 #[derive(Clone, Copy, Default, Debug)]
 pub struct SentNumbers {
@@ -45,7 +45,7 @@ pub struct SentNumbers {
     pub batch_length: usize,
 }
 
-/// An answer to a request that was made, or to a read.
+/// An answer to a request that was executed, or to a read.
 #[repr(C)]
 #[derive(Clone, Copy, Default, Debug)]
 pub struct AnswerNumbers {
@@ -56,7 +56,7 @@ pub struct AnswerNumbers {
     pub kind: u8,
 }
 
-/// How many keys a scan found, and how many bytes they have with their lengths.
+/// How many keys a scan found, and how many bytes these keys take with their lengths.
 #[repr(C)]
 #[derive(Clone, Copy, Default, Debug)]
 pub struct KeyNumbers {
@@ -64,8 +64,8 @@ pub struct KeyNumbers {
     pub length: usize,
 }
 
-/// The head of a shard's log: how many batches there are, how many of them, from the first on, the base stands for, and
-/// in how many parts it lies.
+/// The head of a shard's log: the number of batches, how many of them the base stands for (from the first on), and in
+/// how many parts the base is stored.
 #[repr(C)]
 #[derive(Clone, Copy, Default, Debug, PartialEq, Eq)]
 pub struct Head {
@@ -74,7 +74,7 @@ pub struct Head {
     pub parts: u64,
 }
 
-/// A part of the base that a server makes.
+/// A part of the base that a server writes.
 #[repr(C)]
 #[derive(Clone, Copy, Default, Debug)]
 pub struct PartNumbers {
@@ -192,7 +192,7 @@ extern "C" {
     pub fn durkenzo_server_close(server: *mut Handle);
 }
 
-/// A command, or what comes next: its kind, and what it names.
+/// A command, or the next step: its kind, and the shard and server that it names.
 #[cfg(feature = "control")]
 #[repr(C)]
 #[derive(Clone, Copy, Default, Debug, PartialEq, Eq)]
@@ -202,7 +202,7 @@ pub struct DirectorStep {
     pub kind: u8,
 }
 
-/// What a command's transaction compares, and how much it writes.
+/// The numbers of a command's transaction: the revisions that it compares, and how much it writes.
 #[cfg(feature = "control")]
 #[repr(C)]
 #[derive(Clone, Copy, Default, Debug)]
@@ -256,6 +256,14 @@ extern "C" {
         into: *mut u8,
         room: usize,
     ) -> u32;
+    pub fn durkenzo_director_resettle(
+        director: *mut Handle,
+        other: *mut Handle,
+        in_use: *mut u16,
+        numbers: *mut CommandNumbers,
+        into: *mut u8,
+        room: usize,
+    ) -> u32;
     pub fn durkenzo_director_made(director: *mut Handle, revision: u64) -> u32;
     pub fn durkenzo_director_lost(director: *mut Handle) -> u32;
     pub fn durkenzo_director_follower(director: *mut Handle, server: u16, revision: u64) -> u32;
@@ -298,7 +306,7 @@ extern "C" {
     pub fn durkenzo_director_close(director: *mut Handle);
 }
 
-/// What a process read of a shard, all at one revision of the store.
+/// The state of a shard as a process read it, all at one revision of the store.
 #[cfg(feature = "permits")]
 #[repr(C)]
 #[derive(Clone, Copy, Default, Debug, PartialEq, Eq)]
@@ -310,7 +318,7 @@ pub struct ReadingNumbers {
     pub owner_failed: bool,
 }
 
-/// What a process knows of a shard.
+/// The knowledge of a process about a shard.
 #[cfg(feature = "permits")]
 #[repr(C)]
 #[derive(Clone, Copy, Default, Debug, PartialEq, Eq)]
@@ -323,7 +331,8 @@ pub struct ViewNumbers {
     pub freed: bool,
 }
 
-/// What handed-over bytes name.
+/// The contents of handed-over bytes: the process that let go, by the revision of its server's key, its server, and
+/// the generation up to which it has let go.
 #[cfg(feature = "permits")]
 #[repr(C)]
 #[derive(Clone, Copy, Default, Debug, PartialEq, Eq)]

@@ -1,7 +1,7 @@
 use std::error::Error;
 use std::fmt;
 
-/// What a call answers where it isn't made; `library/codes.txt` tells of each.
+/// The code of a call that failed. `library/codes.txt` explains each code.
 #[derive(Clone, Copy, Debug, PartialEq, Eq)]
 pub struct Code(pub u32);
 
@@ -10,9 +10,9 @@ pub struct Code(pub u32);
 impl Code {
     /// The handle keeps no server.
     pub const WRONG_HANDLE: Code = Code(1);
-    /// A server is out of bounds.
+    /// A server is out of range.
     pub const BAD_ARGUMENT: Code = Code(2);
-    /// Memory was refused.
+    /// Out of memory.
     pub const NO_MEMORY: Code = Code(3);
     /// There is no such shard.
     pub const UNKNOWN_SHARD: Code = Code(10);
@@ -22,21 +22,21 @@ impl Code {
     pub const NO_MORE: Code = Code(56);
     /// The request waits for the next transaction, or is in one.
     pub const WAITS: Code = Code(70);
-    /// A later request of its client is made, so this one won't be made.
+    /// A later request of its client was made, so this one won't be made.
     pub const PASSED: Code = Code(71);
     /// Another server executes the request.
     pub const FORWARDS: Code = Code(72);
-    /// Not here and now, or another number of its client waits here.
+    /// It isn't executed here now, or its client waits with another number, or will be forgotten.
     pub const REFUSED: Code = Code(73);
-    /// The request takes more bytes than a batch may.
+    /// The request takes more bytes than a batch may have.
     pub const REQUEST_TOO_LARGE: Code = Code(74);
-    /// As many requests wait as may.
+    /// As many requests wait as allowed.
     pub const CROWDED: Code = Code(75);
-    /// Another server executes the request, but it was forwarded as often as it may be.
+    /// Another server executes the request, but it may not be forwarded again.
     pub const TOO_FAR: Code = Code(76);
-    /// Its client is forgotten, so it won't be made any more.
+    /// The server has forgotten its client, so the request won't be made any more.
     pub const FORGOTTEN: Code = Code(77);
-    /// As many clients are kept as may, and its client isn't among them.
+    /// As many clients are kept as allowed, and its client isn't among them.
     pub const TOO_MANY_CLIENTS: Code = Code(78);
     /// The server hasn't read the shard.
     pub const NOT_READ: Code = Code(79);
@@ -46,9 +46,9 @@ impl Code {
     pub const BAD_BYTES: Code = Code(81);
     /// The log can't be followed.
     pub const BAD_LOG: Code = Code(82);
-    /// A batch, or a part of the base, isn't there: the log is to be read again.
+    /// A batch, or a part of the base, is missing: the log must be read again.
     pub const MISSING: Code = Code(83);
-    /// A batch or a part has more bytes than can be spelled.
+    /// A batch or a part has too many bytes.
     pub const TOO_LARGE: Code = Code(84);
     /// The change doesn't begin from the shard's stand.
     pub const DIRECTOR_WRONG_PHASE: Code = Code(11);
@@ -56,7 +56,7 @@ impl Code {
     pub const DIRECTOR_SAME_SERVER: Code = Code(12);
     /// The shard's generations are spent.
     pub const DIRECTOR_CHANGE_SPENT: Code = Code(13);
-    /// The record has an admission, or has changed: it is to be read again.
+    /// The record has an admission, or has changed: it must be read again.
     pub const DIRECTOR_BUSY: Code = Code(14);
     /// There is no such server.
     pub const DIRECTOR_UNKNOWN_SERVER: Code = Code(30);
@@ -88,7 +88,7 @@ impl Code {
     pub const DIRECTOR_ALREADY_FAILED: Code = Code(49);
     /// Nothing was read yet, or all is to be read again.
     pub const DIRECTOR_UNREAD: Code = Code(90);
-    /// A command was sent, of which the outcome wasn't told.
+    /// A command was sent, and its outcome isn't known yet.
     pub const DIRECTOR_UNDER_WAY: Code = Code(91);
     /// No command was sent.
     pub const DIRECTOR_NOT_SENT: Code = Code(92);
@@ -96,14 +96,22 @@ impl Code {
     pub const DIRECTOR_BAD_BYTES: Code = Code(93);
     /// No commands lead to the records and states that were read.
     pub const DIRECTOR_UNREACHED: Code = Code(94);
-    /// The records or states are others than commands lead to, or of another number.
+    /// The records or states, or their number, differ from those that commands lead to.
     pub const DIRECTOR_DIFFERENT: Code = Code(95);
     /// A follower hasn't read that the shard is taken.
     pub const DIRECTOR_NOT_FOLLOWED: Code = Code(96);
     /// A server that the command waits for hasn't acked the shard's record.
     pub const DIRECTOR_NOT_ACKED: Code = Code(97);
-    /// The server's process is the one that was stopped, or none was seen.
+    /// The server's process is the one that was stopped, or isn't known.
     pub const DIRECTOR_EARLIER_PROCESS: Code = Code(98);
+    /// The two directors didn't read the same records and states.
+    pub const DIRECTOR_READ_APART: Code = Code(99);
+    /// The new settings have other shards.
+    pub const DIRECTOR_OTHER_SHARDS: Code = Code(100);
+    /// The new settings have another ceiling.
+    pub const DIRECTOR_OTHER_CEILING: Code = Code(101);
+    /// A server without a row in the new settings has neither stopped nor failed.
+    pub const DIRECTOR_IN_USE: Code = Code(102);
     /// No record has the word.
     pub const PERMIT_BAD_WORD: Code = Code(4);
     /// The first of the control's codes of a line of settings.
@@ -114,12 +122,12 @@ impl Code {
 // End of them.
 
 impl Code {
-    /// Whether the control has a line of settings that breaks a rule.
+    /// Returns whether the code is the control's for a line of settings that breaks a rule.
     pub fn is_of_settings(self) -> bool {
         (Code::FIRST_OF_SETTINGS.0..=Code::LAST_OF_SETTINGS.0).contains(&self.0)
     }
 
-    /// Nothing, where a call answered 0.
+    /// Returns no error if a call answered 0.
     pub(crate) fn judged(code: u32) -> Result<(), Code> {
         match code {
             0 => Ok(()),
@@ -131,7 +139,7 @@ impl Code {
 impl fmt::Display for Code {
     fn fmt(&self, f: &mut fmt::Formatter<'_>) -> fmt::Result {
         match *self {
-            Code::NO_MEMORY => f.write_str("memory was refused"),
+            Code::NO_MEMORY => f.write_str("out of memory"),
             Code::BAD_BYTES => f.write_str("what lies at a key of it is wrong"),
             Code::BAD_LOG => f.write_str("its log can't be followed"),
             Code::MISSING => f.write_str("a batch of its log, or a part of its base, isn't there"),

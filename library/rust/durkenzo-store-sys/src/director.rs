@@ -3,12 +3,12 @@ use crate::Code;
 
 pub use crate::calls::DirectorStep;
 
-/// A record or a state, and the bytes of the key of commands behind it, are no longer.
+/// The greatest length of a record or a state, followed by the bytes of the key of commands.
 const ROOM: usize = 34;
-/// A call on the control for what comes next of this shard or server.
+/// A call on the control for the next step of this shard or server.
 type NextCall = unsafe extern "C" fn(*mut Handle, u16, *mut DirectorStep) -> u32;
 
-/// The kinds of commands, and of what comes next where it is none.
+/// The kinds of commands, and the other kinds of next steps.
 #[allow(missing_docs)]
 impl DirectorStep {
     // By tools/library-codes, the commands of library/codes.txt:
@@ -30,7 +30,7 @@ impl DirectorStep {
     pub const WAITS: u8 = 15;
     // End of them.
 
-    /// A change of this kind of the shard; server 0 where it names none.
+    /// Returns the change of this kind of the shard. Pass server 0 if the change names none.
     pub fn of_shard(kind: u8, shard: u16, server: u16) -> DirectorStep {
         DirectorStep {
             shard,
@@ -39,37 +39,57 @@ impl DirectorStep {
         }
     }
 
-    /// A step of this kind of the server's restart.
+    /// Returns the step of this kind of the server's restart.
     pub fn of_server(kind: u8, server: u16) -> DirectorStep {
         DirectorStep::of_shard(kind, 0, server)
     }
 
-    /// Whether it may be given as a command.
+    /// Returns whether this can be given as a command.
     pub fn is_command(self) -> bool {
         DirectorStep::NOTHING < self.kind && self.kind < DirectorStep::WAITS
     }
 }
 
-/// What a command's transaction compares and writes.
+/// The comparisons and writes of a command's transaction.
 #[derive(Clone, Debug, PartialEq, Eq)]
 pub struct CommandTransaction {
     /// The revision of the leader's key.
     pub elected: u64,
     /// The revision of the key of commands.
     pub placed: u64,
-    /// The server whose key isn't there, 0 for none.
+    /// The server whose key must not exist, or 0.
     pub absent: u16,
-    /// The shard whose record is written, or the server whose state is.
+    /// The shard whose record is written, or the server whose state is written.
     pub number: u16,
-    /// Whether it is a state.
+    /// Whether a state is written.
     pub is_state: bool,
-    /// What is put there.
+    /// The bytes of the record or the state.
     pub written: Vec<u8>,
-    /// What is put at the key of commands.
+    /// The bytes for the key of commands.
     pub commands: Vec<u8>,
 }
 
-/// A proved control of a store. A call that is refused leaves it as it was, but where `durkenzo_control.h` says
+/// The comparisons and writes of the transaction that replaces the settings in force.
+#[derive(Clone, Debug, PartialEq, Eq)]
+pub struct SettingsTransaction {
+    /// The revision of the leader's key.
+    pub elected: u64,
+    /// The revision of the key of commands.
+    pub placed: u64,
+    /// The bytes for the key of commands. The transaction also writes the new line at the settings' key.
+    pub commands: Vec<u8>,
+}
+
+/// Why other settings can't replace those in force.
+#[derive(Clone, Copy, Debug, PartialEq, Eq)]
+pub struct SettingsRefusal {
+    /// The reason.
+    pub code: Code,
+    /// The server in use that the new settings would remove, or 0 if there is another reason.
+    pub in_use: u16,
+}
+
+/// The proved control of a store. If a call is refused, the control doesn't change, unless `durkenzo_control.h` says
 /// otherwise.
 #[derive(Debug)]
 pub struct Director {
@@ -78,31 +98,31 @@ pub struct Director {
     servers: Vec<u16>,
 }
 
-// SAFETY: the library's promise: a handle may pass from thread to thread. No other value has this one's.
+// SAFETY: the library promises that a handle may pass from thread to thread. No other value has this handle.
 unsafe impl Send for Director {}
 
 impl Drop for Director {
     fn drop(&mut self) {
-        // SAFETY: the handle is this value's alone, and is one of the library's or bytes of 0.
+        // SAFETY: only this value uses the handle, and the handle is one of the library's or bytes of 0.
         unsafe { calls::durkenzo_director_close(&mut self.handle) }
     }
 }
 
-// SAFETY, of all calls below: the handle is this value's alone, slices go with their lengths, and what is written to is
-// the call's alone.
+// SAFETY, of all calls below: only this value uses the handle, slices come with their lengths, and only the call uses
+// the memory that it writes.
 impl Director {
-    /// That of the store which this line of settings describes, for this process, which was elected at this revision.
-    /// Its commands wait for acks.
+    /// Makes the control of the store that this line of settings describes, for this process, which was elected at this
+    /// revision. Its commands wait for acks.
     pub fn new(line: &str, process: u64, elected: u64) -> Result<Director, Code> {
         Director::of(line.as_bytes(), process, elected)
     }
 
-    /// The same, of a line that may be any bytes.
+    /// Makes the same control, from a line that can be any bytes.
     pub fn of(line: &[u8], process: u64, elected: u64) -> Result<Director, Code> {
         Director::opened(line, process, elected, true)
     }
 
-    /// The same, for a process that has all servers of the store: its commands wait for no ack.
+    /// Makes the same control for a process that runs all servers of the store. Its commands wait for no acks.
     pub fn alone(line: &str, process: u64, elected: u64) -> Result<Director, Code> {
         Director::opened(line.as_bytes(), process, elected, false)
     }
@@ -134,17 +154,17 @@ impl Director {
         Ok(made)
     }
 
-    /// How many shards the settings have.
+    /// Returns how many shards the settings have.
     pub fn shards(&self) -> u16 {
         self.shards
     }
 
-    /// The servers of the settings.
+    /// Returns the servers of the settings.
     pub fn servers(&self) -> &[u16] {
         &self.servers
     }
 
-    /// The server at this place of the settings' rows.
+    /// Returns the server at this place in the rows of the settings.
     pub fn server(&mut self, at: usize) -> Result<u16, Code> {
         let mut server = 0;
         let handle = &mut self.handle;
@@ -152,7 +172,7 @@ impl Director {
         Ok(server)
     }
 
-    /// The shard of a key, by the settings' layout.
+    /// Returns the shard of a key, by the layout of the settings.
     pub fn shard_of(&mut self, key: &[u8]) -> Result<u16, Code> {
         let (handle, mut shard) = (&mut self.handle, 0);
         Code::judged(unsafe {
@@ -175,13 +195,13 @@ impl Director {
         Code::judged(unsafe { calls::durkenzo_director_state(&mut self.handle, bytes, length) })
     }
 
-    /// All is read, at a moment at which the key of commands had this revision.
+    /// Ends reading. The key of commands must have had this revision at the moment of the read.
     pub fn read(&mut self, placed: u64) -> Result<(), Code> {
         Code::judged(unsafe { calls::durkenzo_director_read(&mut self.handle, placed) })
     }
 
-    /// Judges the command, where this process runs the server that it names, 0 where none was seen: it is to be sent,
-    /// or refused by the first fault that applies.
+    /// Judges the command, and names the process that runs the server of the command (0 if none was seen). The command
+    /// is either to be sent, or refused by the first fault that applies.
     pub fn command(&mut self, step: DirectorStep, process: u64) -> Result<(), Code> {
         let DirectorStep {
             shard,
@@ -193,7 +213,7 @@ impl Director {
         })
     }
 
-    /// What is sent. It may be asked again.
+    /// Returns the transaction to send. You may call this more than once.
     pub fn sending(&mut self) -> Result<CommandTransaction, Code> {
         let (mut numbers, mut room) = (CommandNumbers::default(), [0; ROOM]);
         let (into, length) = (room.as_mut_ptr(), room.len());
@@ -213,12 +233,44 @@ impl Director {
         })
     }
 
-    /// What was sent was made at this revision.
+    /// Returns the transaction that replaces this director's settings with those of the other director, or why they
+    /// can't be replaced. The other director must be of the same process, made from the new line, and must have read
+    /// the same records and states. Because the other director stands (its `read` was not refused), the records and
+    /// states keep to its settings.
+    ///
+    /// The transaction must write exactly the line from which the other director was made. Whatever the outcome, read
+    /// the settings again, and make a director from them.
+    pub fn resettle(
+        &mut self,
+        other: &mut Director,
+    ) -> Result<SettingsTransaction, SettingsRefusal> {
+        let (mut numbers, mut room, mut in_use) = (CommandNumbers::default(), [0; ROOM], 0);
+        let (into, length) = (room.as_mut_ptr(), room.len());
+        let (kept, drafted) = (&mut self.handle, &mut other.handle);
+        Code::judged(unsafe {
+            calls::durkenzo_director_resettle(
+                kept,
+                drafted,
+                &mut in_use,
+                &mut numbers,
+                into,
+                length,
+            )
+        })
+        .map_err(|code| SettingsRefusal { code, in_use })?;
+        Ok(SettingsTransaction {
+            elected: numbers.elected,
+            placed: numbers.placed,
+            commands: room[..numbers.commands_length.min(ROOM)].to_vec(),
+        })
+    }
+
+    /// Tells the control that its transaction was made, at this revision.
     pub fn made(&mut self, revision: u64) -> Result<(), Code> {
         Code::judged(unsafe { calls::durkenzo_director_made(&mut self.handle, revision) })
     }
 
-    /// All is to be read again.
+    /// Tells the control that all must be read again.
     pub fn lost(&mut self) -> Result<(), Code> {
         Code::judged(unsafe { calls::durkenzo_director_lost(&mut self.handle) })
     }
@@ -228,7 +280,7 @@ impl Director {
         Code::judged(unsafe { calls::durkenzo_director_forget_followers(&mut self.handle) })
     }
 
-    /// This server is there, and has read the store up to this revision.
+    /// Adds a follower: this server is there, and has read the store up to this revision.
     pub fn follower(&mut self, server: u16, revision: u64) -> Result<(), Code> {
         Code::judged(unsafe {
             calls::durkenzo_director_follower(&mut self.handle, server, revision)
@@ -240,24 +292,24 @@ impl Director {
         Code::judged(unsafe { calls::durkenzo_director_forget_acks(&mut self.handle) })
     }
 
-    /// Adds that this server has acked the shard's records up to this generation.
+    /// Adds an ack: this server has acked the shard's records up to this generation.
     pub fn ack(&mut self, shard: u16, server: u16, generation: u64) -> Result<(), Code> {
         Code::judged(unsafe {
             calls::durkenzo_director_ack(&mut self.handle, shard, server, generation)
         })
     }
 
-    /// What comes next of the shard.
+    /// Returns the next step of the shard.
     pub fn next_of_shard(&mut self, shard: u16) -> Result<DirectorStep, Code> {
         self.next(calls::durkenzo_director_next_of_shard, shard)
     }
 
-    /// What comes next of the server's restart.
+    /// Returns the next step of the server's restart.
     pub fn next_of_server(&mut self, server: u16) -> Result<DirectorStep, Code> {
         self.next(calls::durkenzo_director_next_of_server, server)
     }
 
-    /// What comes next of the drain of the server, or for 0 of the vacant shards.
+    /// Returns the next step of the server's drain, or of placing the vacant shards if the server is 0.
     pub fn next_of_drain(&mut self, server: u16) -> Result<DirectorStep, Code> {
         self.next(calls::durkenzo_director_next_of_drain, server)
     }
@@ -268,14 +320,14 @@ impl Director {
         Ok(step)
     }
 
-    /// The first server to which requests go and that isn't among the followers, 0 for none.
+    /// Returns the first server that gets requests but isn't among the followers, or 0.
     pub fn fallen(&mut self) -> Result<u16, Code> {
         let mut server = 0;
         Code::judged(unsafe { calls::durkenzo_director_fallen(&mut self.handle, &mut server) })?;
         Ok(server)
     }
 
-    /// The word of the shard's record, and the revision at which it was written.
+    /// Returns the word of the shard's record, and the revision at which it was written.
     pub fn record_of(&mut self, shard: u16) -> Result<(u64, u64), Code> {
         let (handle, mut word, mut stood) = (&mut self.handle, 0, 0);
         Code::judged(unsafe {
@@ -284,7 +336,7 @@ impl Director {
         Ok((word, stood))
     }
 
-    /// The number of the server's state, and the process that it names, 0 for none.
+    /// Returns the number of the server's state, and the process that it names (0 if it names none).
     pub fn state_of(&mut self, server: u16) -> Result<(u8, u64), Code> {
         let (handle, mut state, mut process) = (&mut self.handle, 0, 0);
         Code::judged(unsafe {

@@ -1,5 +1,5 @@
-//! The proved servers and the proved control of a shared store, and permits: their calls, as `durkenzo_store.h`,
-//! `durkenzo_control.h` and `durkenzo_permit.h` declare them, and values that call them safely.
+//! The proved servers and the proved control of a shared store, and permits. It has the calls that `durkenzo_store.h`,
+//! `durkenzo_control.h` and `durkenzo_permit.h` declare, and values that call them safely.
 //!
 //! ```
 //! use durkenzo_store_sys::{Decision, Limits, Server};
@@ -38,7 +38,9 @@ mod server;
 pub use calls::{Head, Reply};
 pub use code::Code;
 #[cfg(feature = "control")]
-pub use director::{CommandTransaction, Director, DirectorStep};
+pub use director::{
+    CommandTransaction, Director, DirectorStep, SettingsRefusal, SettingsTransaction,
+};
 #[cfg(feature = "permits")]
 pub use permit::{HandOver, ShardReading, ShardView};
 pub use server::{Base, Decision, Limits, Passing, Server, ServerRequest, ServerTransaction, Told};

@@ -1,6 +1,6 @@
-//! The limits of the proved crates, whose constants these are.
+//! The limits, which are constants of the proved crates.
 // By tools/library-codes, the limits of library/codes.txt:
 
-/// The greatest number of bytes that a text of the sample service has.
+/// The most bytes that a text of the sample service may have.
 pub const MAX_TEXT: usize = 65_535;
 // End of them.

@@ -3,7 +3,7 @@ use crate::Code;
 
 pub use crate::calls::{HandOverNumbers as HandOver, ReadingNumbers as ShardReading};
 
-/// What a process of a server knows of a shard, by which proved code says whether the process may execute.
+/// A server process's knowledge of a shard. From it proved code decides whether the process may execute.
 ///
 /// ```
 /// use durkenzo_store_sys::{HandOver, ShardReading, ShardView};
@@ -22,27 +22,27 @@ pub use crate::calls::{HandOverNumbers as HandOver, ReadingNumbers as ShardReadi
 #[derive(Clone, Copy, Debug, PartialEq, Eq)]
 pub struct ShardView(ViewNumbers);
 
-// SAFETY, of all calls below: each pointer is of a value that lives as long as the call, and only the call writes what
-// it may write to.
+// SAFETY, of all calls below: each pointer is to a value that lives as long as the call, and only the call writes to
+// it.
 impl ShardView {
-    /// Returns what a process knows that put its server's key at the revision `joined`. Its lease lasts until this time
-    /// of its clock. It executes nothing until it reads.
+    /// Returns the view of a process that put its server's key at the revision `joined`. Its lease lasts until this
+    /// time of its clock. The process executes nothing until it has read the shard.
     ///
     /// # Errors
     ///
-    /// No server has the number.
+    /// [`Code::BAD_ARGUMENT`] if the number is no server's.
     pub fn new(server: u16, joined: u64, until: u64) -> Result<ShardView, Code> {
         let mut view = ViewNumbers::default();
         Code::judged(unsafe { calls::durkenzo_permit_new(server, joined, until, &mut view) })?;
         Ok(ShardView(view))
     }
 
-    /// Returns whether the process may execute, at this time of its clock, a request that came directly (`from` 0) or
-    /// from that server.
+    /// Returns whether the process may execute a request at this time of its clock. The request came directly (`from`
+    /// is 0) or from the server `from`.
     ///
     /// # Errors
     ///
-    /// No server has the number `from`.
+    /// [`Code::BAD_ARGUMENT`] if the number `from` is no server's.
     pub fn may_execute(&self, from: u16, time: u64) -> Result<bool, Code> {
         let mut may = false;
         Code::judged(unsafe { calls::durkenzo_permit_may_execute(&self.0, from, time, &mut may) })?;
@@ -53,59 +53,59 @@ impl ShardView {
     ///
     /// # Errors
     ///
-    /// None that a view of this type has.
+    /// A view of this type never causes an error.
     pub fn may_ack(&self) -> Result<bool, Code> {
         let mut may = false;
         Code::judged(unsafe { calls::durkenzo_permit_may_ack(&self.0, &mut may) })?;
         Ok(may)
     }
 
-    /// Returns what the process knows once a keep of its lease was answered, by which it lasts until this time.
+    /// Returns the view after a keep-alive of the lease was answered. The lease then lasts until this time.
     ///
     /// # Errors
     ///
-    /// None that a view of this type has.
+    /// A view of this type never causes an error.
     pub fn kept(self, until: u64) -> Result<ShardView, Code> {
         self.changed(|view| unsafe { calls::durkenzo_permit_kept(view, until) })
     }
 
-    /// Returns what the process knows once it has read.
+    /// Returns the view after the process has read the shard.
     ///
     /// # Errors
     ///
-    /// No record has the word.
+    /// [`Code::PERMIT_BAD_WORD`] if no record has the word.
     pub fn read(self, reading: &ShardReading) -> Result<ShardView, Code> {
         self.changed(|view| unsafe { calls::durkenzo_permit_read(view, reading) })
     }
 
-    /// Returns what the process knows once it has read that the server acked up to this generation.
+    /// Returns the view after the process has read that the server acked up to this generation.
     ///
     /// # Errors
     ///
-    /// No server has the number.
+    /// [`Code::BAD_ARGUMENT`] if the number is no server's.
     pub fn acked(self, server: u16, generation: u64) -> Result<ShardView, Code> {
         self.changed(|view| unsafe { calls::durkenzo_permit_acked(view, server, generation) })
     }
 
-    /// Returns what the process knows once it has bytes that name this.
+    /// Returns the view after the process has received these handed-over bytes.
     ///
     /// # Errors
     ///
-    /// No server has the number.
+    /// [`Code::BAD_ARGUMENT`] if the number is no server's.
     pub fn handed(self, hand: &HandOver) -> Result<ShardView, Code> {
         self.changed(|view| unsafe { calls::durkenzo_permit_handed(view, hand) })
     }
 
-    /// Returns what the process knows once it lets go of its record: it executes no more by it.
+    /// Returns the view after the process lets go of its record. It executes nothing more by that record.
     ///
     /// # Errors
     ///
-    /// None that a view of this type has.
+    /// A view of this type never causes an error.
     pub fn let_go(self) -> Result<ShardView, Code> {
         self.changed(|view| unsafe { calls::durkenzo_permit_let_go(view) })
     }
 
-    /// Returns what was read last.
+    /// Returns the last reading.
     pub fn reading(&self) -> ShardReading {
         self.0.reading
     }
@@ -125,7 +125,7 @@ impl ShardView {
         self.0.until
     }
 
-    /// Returns the view that the call makes of this one.
+    /// Returns the view that the call makes from this one.
     fn changed(mut self, call: impl FnOnce(*mut ViewNumbers) -> u32) -> Result<ShardView, Code> {
         Code::judged(call(&mut self.0))?;
         Ok(self)

@@ -4,22 +4,22 @@ use crate::calls::{
 use crate::limits::MAX_TEXT;
 use crate::Code;
 
-/// How many bytes a part of a base has at most.
+/// A part of a base has at most this many bytes.
 const PART_BYTES: usize = 696_337;
-/// How many bytes the room has at first, before it grows to what is written there.
+/// The room begins with this many bytes, and grows when a call needs more.
 const FIRST_ROOM: usize = 4 << 10;
-/// No key is as great as this one.
+/// Every key is below this one.
 const ABOVE_KEYS: [u8; 256] = [u8::MAX; 256];
 
 impl Head {
-    /// What the bytes at a log's head say.
+    /// Reads the bytes at a log's head.
     ///
     /// # Errors
     ///
-    /// [`Code::BAD_BYTES`] where they are no head's.
+    /// [`Code::BAD_BYTES`] if they are no head.
     pub fn of(bytes: &[u8]) -> Result<Head, Code> {
         let mut head = Head::default();
-        // SAFETY: the bytes go with their length, and what is written to is this call's alone.
+        // SAFETY: the bytes come with their length, and only this call uses the memory that is written.
         Code::judged(unsafe {
             calls::durkenzo_log_head_of(bytes.as_ptr(), bytes.len(), &mut head)
         })?;
@@ -27,16 +27,16 @@ impl Head {
     }
 }
 
-/// How much a server takes.
+/// The limits of a server.
 #[derive(Clone, Copy, Debug, PartialEq, Eq)]
 pub struct Limits {
-    /// The most bytes of a batch's requests, and how many they are at most.
+    /// A batch's requests have at most this many bytes together.
     pub batch_bytes: u64,
-    /// How many requests a batch has at most.
+    /// A batch has at most this many requests.
     pub batch_requests: usize,
-    /// How many requests wait at most, and as many reads.
+    /// At most this many requests wait, and as many reads.
     pub waiting: usize,
-    /// Of how many clients the last request is kept.
+    /// The last request is kept of this many clients.
     pub clients: usize,
 }
 
@@ -54,7 +54,7 @@ impl Default for Limits {
 /// A request, as a server takes it.
 #[derive(Clone, Copy, Debug, Default)]
 pub struct ServerRequest<'a> {
-    /// Whose it is.
+    /// The client that sent it.
     pub client: u64,
     /// Its number.
     pub number: u64,
@@ -62,48 +62,48 @@ pub struct ServerRequest<'a> {
     pub from: u16,
     /// How often it was forwarded.
     pub hops: u8,
-    /// The number below which clients are forgotten once it is made.
+    /// The number below which clients are forgotten once the request is executed.
     pub forgets: u64,
     /// Its bytes.
     pub request: &'a [u8],
 }
 
-/// What is decided of a request that came.
+/// The decision on a request.
 #[derive(Clone, Copy, Debug, PartialEq, Eq)]
 pub enum Decision {
-    /// It is made, and this is its reply.
+    /// The request is executed, and this is its reply.
     Replied(Reply),
-    /// It waits for the next transaction, or is in one.
+    /// The request waits for the next transaction, or is in one.
     Waits,
-    /// A later request of its client is made.
+    /// A later request of its client is executed.
     Passed,
     /// Its client is forgotten.
     Forgotten,
-    /// This server executes it, to which it was then forwarded so often.
+    /// This server executes the request. The hops count this forwarding too.
     Forwards(u16, u8),
-    /// Not here and now: why.
+    /// The request is refused here and now, for this reason.
     Refused(Code),
 }
 
-/// What a server's transaction compares and writes.
+/// The comparisons and writes of a server's transaction.
 #[derive(Clone, Debug, PartialEq, Eq)]
 pub struct ServerTransaction {
     /// The revision of the record.
     pub stood: u64,
     /// The revision of the head.
     pub logged: u64,
-    /// The number of the batch; 0 for none.
+    /// The number of the batch, or 0 if there is none.
     pub number: u64,
-    /// What is put at the head, if anything is.
+    /// The bytes for the head. They are empty if the head isn't written.
     pub head: Vec<u8>,
-    /// What is put at the batch.
+    /// The bytes for the batch, if there is one.
     pub batch: Vec<u8>,
 }
 
-/// An answer to a request that was made; to a read with its text.
+/// An answer to a request that was executed, or to a read, with its text.
 #[derive(Clone, Debug, PartialEq, Eq)]
 pub struct Told {
-    /// Whose request it was.
+    /// The client that sent the request.
     pub client: u64,
     /// Its number.
     pub number: u64,
@@ -113,16 +113,17 @@ pub struct Told {
     pub text: Vec<u8>,
 }
 
-/// A base that a server makes: how many batches it stands for, and what lies at its parts.
+/// A base that a server writes: how many batches it stands for, and the bytes of its parts.
 #[derive(Clone, Debug, PartialEq, Eq)]
 pub struct Base {
     /// Its number.
     pub number: u64,
-    /// What is put at each place.
+    /// The bytes of each part.
     pub parts: Vec<Vec<u8>>,
 }
 
-/// What may be behind a base: a batch by its number, or a part of a base by the base's number and its place.
+/// A batch or a part of a base that may be behind the newest base: a batch by its number, a part by the number of its
+/// base and its place.
 #[derive(Clone, Copy, Debug, PartialEq, Eq)]
 pub enum Passing {
     /// A batch.
@@ -131,28 +132,28 @@ pub enum Passing {
     Part(u64, u64),
 }
 
-/// A proved server of one shard. Each call answers a code where it isn't made; after one of which `durkenzo_store.h`
-/// says nothing there, another server is to be made.
+/// The proved server of one shard. If a call can't be made, it returns a code. If `durkenzo_store.h` says nothing about
+/// going on after this code, you must make another server.
 #[derive(Debug)]
 pub struct Server {
     handle: Handle,
     room: Vec<u8>,
 }
 
-// SAFETY: the library's promise: a handle may pass from thread to thread. No other value has this one's.
+// SAFETY: the library promises that a handle may pass from thread to thread. No other value has this handle.
 unsafe impl Send for Server {}
 
 impl Drop for Server {
     fn drop(&mut self) {
-        // SAFETY: the handle is this value's alone, and is one of the library's or bytes of 0.
+        // SAFETY: only this value uses the handle, and the handle is one of the library's or bytes of 0.
         unsafe { calls::durkenzo_server_close(&mut self.handle) }
     }
 }
 
-// SAFETY, of all calls below: the handle is this value's alone, slices go with their lengths, and what is written to is
-// the call's alone.
+// SAFETY, of all calls below: only this value uses the handle, slices come with their lengths, and only the call uses
+// the memory that it writes.
 impl Server {
-    /// Server `me` of the shard, one of so many, which has read nothing yet.
+    /// Makes server `me` of the shard, which is one of `count` shards. It has read nothing yet.
     pub fn new(me: u16, shard: u16, count: u64, limits: Limits) -> Result<Server, Code> {
         let mut server = Server {
             handle: Handle::empty(),
@@ -185,7 +186,7 @@ impl Server {
         Code::judged(unsafe { calls::durkenzo_server_batch(&mut self.handle, bytes, length) })
     }
 
-    /// The shard was read: its record and the head of its log, each with its revision.
+    /// Tells the server that the shard was read: its record and the head of its log, each with its revision.
     pub fn read(
         &mut self,
         (record, stood): (&[u8], u64),
@@ -204,7 +205,7 @@ impl Server {
         })
     }
 
-    /// Returns how many batches the server has made: none before the shard was read.
+    /// Returns how many batches the server has made. If the shard wasn't read yet, that is 0.
     pub fn batch_count(&mut self) -> Result<u64, Code> {
         let mut batches = 0;
         let handle = &mut self.handle;
@@ -212,10 +213,10 @@ impl Server {
         Ok(batches)
     }
 
-    /// The shard was read from where the server is: its record and the head of its log, each with its revision, and the
-    /// batches that were added. What was sent or waits here is to be given again.
+    /// Tells the server that the shard was read on from the server's place: its record and the head of its log, each
+    /// with its revision, and the batches that were added. Requests that were sent or wait here must be given again.
     ///
-    /// After [`Code::MISSING`] the shard is to be read.
+    /// After [`Code::MISSING`] the whole shard must be read, because this call reads on only from the server's place.
     pub fn append(
         &mut self,
         (record, stood): (&[u8], u64),
@@ -234,7 +235,7 @@ impl Server {
         })
     }
 
-    /// The record was seen. What waits here is to be given again.
+    /// Tells the server that the record was seen. Requests that wait here must be given again.
     pub fn record(&mut self, record: &[u8], stood: u64) -> Result<(), Code> {
         let (bytes, length) = (record.as_ptr(), record.len());
         Code::judged(unsafe {
@@ -242,7 +243,7 @@ impl Server {
         })
     }
 
-    /// What is decided of a request.
+    /// Decides on a request.
     pub fn take(&mut self, asked: &ServerRequest<'_>) -> Result<Decision, Code> {
         let (mut reply, mut forward) = (Reply::default(), Forward::default());
         let code = unsafe {
@@ -272,14 +273,14 @@ impl Server {
         })
     }
 
-    /// Lets what waits be sent: whether there is something to send now.
+    /// Allows waiting requests to be sent. Returns whether there is something to send now.
     pub fn flush(&mut self) -> Result<bool, Code> {
         let mut sends = false;
         Code::judged(unsafe { calls::durkenzo_server_flush(&mut self.handle, &mut sends) })?;
         Ok(sends)
     }
 
-    /// What is sent. It may be asked again.
+    /// Returns the transaction to send. You may call this more than once.
     pub fn sending(&mut self) -> Result<ServerTransaction, Code> {
         let mut numbers = SentNumbers::default();
         loop {
@@ -302,7 +303,8 @@ impl Server {
         })
     }
 
-    /// What was sent was made at this revision: the answers to requests, and to reads.
+    /// Tells the server that its transaction was made, at this revision. Returns the answers to requests, and those to
+    /// reads.
     pub fn made(&mut self, revision: u64) -> Result<(Vec<Told>, Vec<Told>), Code> {
         let (mut made, mut read) = (0, 0);
         let handle = &mut self.handle;
@@ -334,12 +336,13 @@ impl Server {
         Ok(told(&answer, &self.room[..answer.length]))
     }
 
-    /// What was sent wasn't made, or isn't known to be. The server decides nothing before it has read or appended.
+    /// Tells the server that its transaction wasn't made, or isn't known to be made. The server decides nothing until
+    /// it has read or appended.
     pub fn lost(&mut self) -> Result<(), Code> {
         Code::judged(unsafe { calls::durkenzo_server_lost(&mut self.handle) })
     }
 
-    /// Begins a base, whose parts are to be written now; none where none begins.
+    /// Begins a base, whose parts must be written now. Returns `None` if no base begins.
     pub fn base(&mut self) -> Result<Option<Base>, Code> {
         let mut begins = false;
         Code::judged(unsafe { calls::durkenzo_server_base(&mut self.handle, &mut begins) })?;
@@ -355,7 +358,7 @@ impl Server {
         Ok(Some(Base { number, parts }))
     }
 
-    /// The numbers of the base that is made, and the bytes of its part at this place.
+    /// Returns the numbers of the base, and the bytes of its part at this place.
     fn part(&mut self, place: usize) -> Result<(PartNumbers, Vec<u8>), Code> {
         self.have_room(PART_BYTES);
         let mut part = PartNumbers::default();
@@ -366,12 +369,12 @@ impl Server {
         Ok((part, self.room[..part.length].to_vec()))
     }
 
-    /// Each part of the base was written.
+    /// Tells the server that each part of the base was written.
     pub fn parts_made(&mut self) -> Result<(), Code> {
         Code::judged(unsafe { calls::durkenzo_server_parts_made(&mut self.handle) })
     }
 
-    /// Whether a batch, or a part of a base, is behind the base that the head names.
+    /// Returns whether a batch, or a part of a base, is behind the base that the head names.
     pub fn is_behind(&mut self, passing: Passing) -> Result<bool, Code> {
         let (is_part, number, place) = match passing {
             Passing::Batch(number) => (false, number, 0),
@@ -384,24 +387,24 @@ impl Server {
         Ok(behind)
     }
 
-    /// Of how many clients the last request is kept: of none before the shard was read.
+    /// Returns of how many clients the last request is kept. If the shard wasn't read yet, that is 0.
     pub fn clients(&mut self) -> Result<usize, Code> {
         let mut clients = 0;
         Code::judged(unsafe { calls::durkenzo_server_clients(&mut self.handle, &mut clients) })?;
         Ok(clients)
     }
 
-    /// Returns how many keys hold something after all requests that are made: none before the shard was read.
+    /// Returns how many keys have a value after all executed requests. If the shard wasn't read yet, that is 0.
     pub fn count(&mut self) -> Result<u64, Code> {
         let mut keys = 0;
         Code::judged(unsafe { calls::durkenzo_server_keys(&mut self.handle, &mut keys) })?;
         Ok(keys)
     }
 
-    /// Returns the first keys, at most so many, that hold something after all requests that are made, in their order:
-    /// those from `low` on and below `high`, or up to the last one. There are none before the shard was read.
+    /// Returns the first keys that have a value after all executed requests, in their order, at most this many: keys
+    /// from `low` on and below `high`, or up to the last key. Before the shard was read it returns no keys.
     ///
-    /// After [`Code::NO_MEMORY`] the server goes on as it was.
+    /// [`Code::NO_MEMORY`] doesn't change the server, and it can go on.
     pub fn scan(
         &mut self,
         low: &[u8],

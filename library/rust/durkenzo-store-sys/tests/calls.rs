@@ -1,7 +1,7 @@
-//! Wrong bodies of the library's calls on a store that these tests refuse, so that no edit has to.
+//! Tests that refuse wrong bodies of the library's calls on a store. So these calls need no must-fail edits.
 use durkenzo_store_sys::{Code, Decision, Director, DirectorStep, Limits, Server, ServerRequest};
 
-/// Two shards, and three servers, one of which may be away at a time.
+/// Two shards, and three servers. One server may be away at a time.
 const SETTINGS: &str = concat!(
     r#"{"version":1,"bounds":["","m"],"#,
     r#""servers":[{"id":1,"domain":0,"capacity":9},{"id":2,"domain":1,"capacity":9},"#,
@@ -11,7 +11,7 @@ const SETTINGS: &str = concat!(
 );
 /// A record or a state that was never written.
 const UNWRITTEN: [u8; 17] = [1, 0, 0, 0, 0, 0, 0, 0, 0, 0, 0, 0, 0, 0, 0, 0, 0];
-/// A record that serves at server 1, as control 7 wrote it.
+/// The record of a shard that server 1 serves, as control 7 wrote it.
 const SERVED: [u8; 17] = [1, 32, 1, 0, 0, 0, 0, 0, 1, 0, 0, 0, 0, 0, 0, 0, 7];
 /// The head of a log with no batch.
 const EMPTY: [u8; 25] = {
@@ -19,12 +19,12 @@ const EMPTY: [u8; 25] = {
     bytes[0] = 1;
     bytes
 };
-/// The code of a control that has to read all again.
+/// The code of a control that must read all again.
 const UNREAD: Code = Code::DIRECTOR_UNREAD;
 /// The code of a drop before each follower has read that the shard is taken.
 const NOT_FOLLOWED: Code = Code::DIRECTOR_NOT_FOLLOWED;
 
-/// The server of a shard that it serves, of which nothing was made.
+/// Makes a server of a shard that it serves, with an empty log.
 fn serving() -> Result<Server, Code> {
     let mut server = Server::new(1, 0, 2, Limits::default())?;
     server.read((&SERVED, 3), (&EMPTY, 5))?;
@@ -40,7 +40,7 @@ fn asked(number: u64, request: &[u8]) -> ServerRequest<'_> {
     }
 }
 
-/// A control that has read that nothing was made.
+/// Makes a control that has read an empty store.
 fn leading() -> Result<Director, Code> {
     let mut director = Director::new(SETTINGS, 7, 3)?;
     for _ in 0..2 {
@@ -78,7 +78,7 @@ fn what_a_later_request_made_has_passed() -> Result<(), Code> {
     Ok(())
 }
 
-/// Has the server make these requests, each by a transaction of its own.
+/// Has the server execute these requests, each in a transaction of its own.
 fn makes(server: &mut Server, first: u64, requests: &[&[u8]]) -> Result<(), Code> {
     for (number, request) in (first..).zip(requests) {
         assert_eq!(server.take(&asked(number, request))?, Decision::Waits);
@@ -98,7 +98,7 @@ fn a_scan_finds_the_keys_of_what_is_made() -> Result<(), Code> {
         1,
         &[b"\x02\x01bvalue", b"\x02\x02b\x00value", b"\x02\x01atext"],
     )?;
-    // What is sent changes nothing until it is made.
+    // A transaction that is sent changes nothing until it is made.
     assert_eq!(server.take(&asked(4, b"\x05\x01b"))?, Decision::Waits);
     assert!(server.flush()?);
     let keys = |keys: &[&[u8]]| keys.iter().map(|it| Box::from(*it)).collect::<Vec<_>>();
@@ -151,7 +151,7 @@ fn a_shard_is_dropped_once_all_follow() -> Result<(), Code> {
     director.command(drop, 0)
 }
 
-/// Both servers have acked the first shard, as far as generations of these tests go.
+/// Adds acks of both servers for the first shard, up to the greatest generation in these tests.
 fn acked(director: &mut Director) -> Result<(), Code> {
     director.forget_acks()?;
     director.ack(0, 1, 9)?;
@@ -170,7 +170,7 @@ fn a_change_waits_for_who_has_to_let_go() -> Result<(), Code> {
     };
     make(&mut director, DirectorStep::ASSIGN, 1)?;
     make(&mut director, DirectorStep::PREPARE_ADD_SHARD, 2)?;
-    // The next owner acks the record of generation 2, and not one before.
+    // The next owner must ack the record of generation 2. An ack of an earlier record isn't enough.
     director.ack(0, 2, 1)?;
     let drop = command(DirectorStep::PREPARE_DROP_SHARD, 0);
     assert_eq!(director.command(drop, 0), Err(Code::DIRECTOR_NOT_ACKED));

@@ -1,7 +1,7 @@
-//! What the proved control answers of a store of two shards and three servers.
+//! Tests of the proved control, on a store of two shards and three servers.
 use durkenzo_store_sys::{Code, Director, DirectorStep};
 
-/// The settings of the store: two shards, and three servers, one of which may be away at a time.
+/// The settings of the store: two shards, and three servers. One server may be away at a time.
 const SETTINGS: &str = concat!(
     r#"{"version":1,"bounds":["","m"],"#,
     r#""servers":[{"id":1,"domain":0,"capacity":9},{"id":2,"domain":1,"capacity":9},"#,
@@ -10,7 +10,7 @@ const SETTINGS: &str = concat!(
     r#""ops":1,"kept":1,"ceiling":100000,"workers":1}"#
 );
 
-/// A record or a state that was never written is read as these bytes: a vacant one, or a server that is up.
+/// If a record or a state was never written, it is read as these bytes: a vacant shard, or a server that is up.
 const UNWRITTEN: [u8; 17] = [1, 0, 0, 0, 0, 0, 0, 0, 0, 0, 0, 0, 0, 0, 0, 0, 0];
 
 #[test]
@@ -101,17 +101,17 @@ fn a_server_is_stopped_of_a_process_and_up_again_by_a_later_one() {
     assert_eq!(make(&mut core, DirectorStep::BACK, 5), earlier);
     make(&mut core, DirectorStep::BACK, 6).unwrap();
     assert_eq!(core.state_of(2), Ok((0, 6)));
-    // What the desk refuses is refused for that.
+    // If the desk refuses a command, the control refuses it for the same reason.
     let up = make(&mut core, DirectorStep::BACK, 6);
     assert_eq!(up, Err(Code::DIRECTOR_ALREADY_UP));
 }
 
-/// What lies at the key of a shard's record of this word, by process 7.
+/// Returns the bytes at the key of a shard's record: the record of this word, written by process 7.
 fn record(word: u64) -> Vec<u8> {
     [&[1][..], &word.to_be_bytes(), &7u64.to_be_bytes()].concat()
 }
 
-/// Has the control read the first shard's record, and that nothing else was written.
+/// Has the control read the first shard's record, and nothing else.
 fn read(core: &mut Director, word: u64) {
     core.record(&record(word), 2).unwrap();
     core.record(&UNWRITTEN, 0).unwrap();
@@ -166,4 +166,53 @@ fn a_server_is_stopped_once_it_has_acked_what_is_paused_for_it() {
         core.made(6).unwrap();
         assert_eq!(core.state_of(2), Ok((3, 9)));
     }
+}
+
+/// Makes a control of the line. In its store only the key of commands was written.
+fn standing(line: &str, placed: u64) -> Director {
+    let mut core = Director::new(line, 7, 3).unwrap();
+    (0..core.shards()).for_each(|_| core.record(&UNWRITTEN, 0).unwrap());
+    (0..core.servers().len()).for_each(|_| core.state(&UNWRITTEN).unwrap());
+    core.read(placed).unwrap();
+    core
+}
+
+#[test]
+fn other_settings_take_the_place() {
+    const THIRD: &str = r#",{"id":3,"domain":2,"capacity":9}"#;
+    let with = |from: &str, to: &str| SETTINGS.replace(from, to);
+    let more = with(THIRD, &format!("{THIRD},{}", &THIRD[1..].replace('3', "4")));
+    let mut core = standing(SETTINGS, 5);
+    let sent = core.resettle(&mut standing(&more, 5)).unwrap();
+    assert_eq!((sent.elected, sent.placed), (3, 5));
+    assert_eq!(sent.commands, [1, 0, 0, 0, 0, 0, 0, 0, 7]);
+    let mut refused = |line: &str, placed, code, in_use| {
+        let refusal = core.resettle(&mut standing(line, placed)).unwrap_err();
+        assert_eq!((refusal.code, refusal.in_use), (code, in_use), "{line}");
+    };
+    refused(&more, 4, Code::DIRECTOR_READ_APART, 0);
+    refused(&with(THIRD, ""), 5, Code::DIRECTOR_IN_USE, 3);
+    refused(&with("\"m\"", "\"n\""), 5, Code::DIRECTOR_OTHER_SHARDS, 0);
+    refused(&with("100000", "99999"), 5, Code::DIRECTOR_OTHER_CEILING, 0);
+    let unread = core.resettle(&mut Director::new(&more, 7, 3).unwrap());
+    assert_eq!(unread.unwrap_err().code, Code::DIRECTOR_UNREAD);
+    // Both directors stay as they were.
+    core.command(DirectorStep::of_shard(DirectorStep::ASSIGN, 0, 1), 0)
+        .unwrap();
+}
+
+#[test]
+fn records_and_states_keep_to_other_settings() {
+    let read = |line: &str, servers: usize| {
+        let mut core = Director::new(line, 7, 3).unwrap();
+        core.record(&record(1 << 61 | 1 << 48 | 1), 2).unwrap();
+        core.record(&UNWRITTEN, 0).unwrap();
+        (0..servers).for_each(|_| core.state(&UNWRITTEN).unwrap());
+        core.read(2)
+    };
+    assert_eq!(read(SETTINGS, 3), Ok(()));
+    let without_owner = SETTINGS.replace(r#"{"id":1,"domain":0,"capacity":9},"#, "");
+    assert_eq!(read(&without_owner, 2), Err(Code::DIRECTOR_UNREACHED));
+    let without_room = SETTINGS.replace(r#""domain":0,"capacity":9"#, r#""domain":0,"capacity":0"#);
+    assert_eq!(read(&without_room, 3), Err(Code::DIRECTOR_UNREACHED));
 }

@@ -1,8 +1,8 @@
-//! What the proved views of shards answer: each call once as it succeeds, and with numbers that are none.
+//! Tests of the proved views of shards: each call once with success, and once with wrong numbers.
 #![cfg(feature = "permits")]
 use durkenzo_store_sys::{Code, HandOver, ShardReading, ShardView};
 
-/// The word of a record: its phase, owner and other server, and its generation.
+/// Returns the word of a record with this phase, owner, other server and generation.
 fn word(phase: u64, owner: u64, other: u64, generation: u64) -> u64 {
     phase << 61 | owner << 48 | other << 36 | generation
 }
@@ -17,7 +17,7 @@ fn reading(word: u64) -> ShardReading {
     }
 }
 
-/// What a process of the server knows that joined at revision 6, whose lease lasts until 100.
+/// Returns the view of a process of the server that joined at revision 6. Its lease lasts until 100.
 fn joined(server: u16) -> ShardView {
     ShardView::new(server, 6, 100).unwrap()
 }

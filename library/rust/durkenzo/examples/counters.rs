@@ -7,7 +7,7 @@ struct Account {
     balance: u64,
 }
 
-/// Serves all accounts as this server until it is told to stop, and counts what it did.
+/// Serves all accounts as this server until it is told to stop. Returns how much it did.
 fn serve(
     board: &Board<Account>,
     server: u16,
@@ -21,7 +21,7 @@ fn serve(
                 account.balance += 1;
                 done += 1;
             }
-            // Another server executes this shard, now or already.
+            // Another server executes this shard, or has yet to hand it over.
             Err(AdmitFault::NotExecutor(_) | AdmitFault::NotYet(_)) => {}
             Err(fault) if fault.is_passing() => {}
             Err(fault) => return Err(fault.into()),

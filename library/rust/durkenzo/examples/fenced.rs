@@ -1,9 +1,9 @@
-//! Adds 1 to accounts of a store, so that no write of an earlier admission or process lands after a later one:
-//! `fenced FILE WRITES [AFTER]`.
+//! Adds 1 to accounts in a store. No write of an earlier admission or process can land after a later one: `fenced FILE
+//! WRITES [AFTER]`.
 //!
-//! Prints what all accounts have in the end. AFTER shows what becomes of tokens that begin too low: the first write
-//! that the store refuses is an error. The store is a file here; of a database, `claim` and `add` are a transaction
-//! each.
+//! Prints the totals of all accounts at the end. AFTER shows what happens if tokens begin too low: the store refuses
+//! the first write, which is an error. The store here is a file. In a database, `claim` and `add` would be one
+//! transaction each.
 use durkenzo::{Board, Mode, MAX_GENERATION};
 use std::error::Error;
 use std::fs;
@@ -17,19 +17,19 @@ const ACCOUNTS: u16 = 4;
 #[derive(Clone, Copy, Default)]
 struct Account {
     balance: u64,
-    /// The greatest token of those who wrote it.
+    /// The greatest token among its writers.
     token: u64,
 }
 
 struct AccountFile {
     file: PathBuf,
-    /// The number after which the tokens of the next process begin.
+    /// The number after which the next process's tokens begin.
     after: u64,
     accounts: [Account; ACCOUNTS as usize],
 }
 
 impl AccountFile {
-    /// The store of the file: its first line is `after`, and each other one an account.
+    /// Opens the store in the file. The first line is `after`, and every other line is an account.
     fn open(file: PathBuf) -> Result<AccountFile, BoxError> {
         let kept = match fs::read_to_string(&file) {
             Err(error) if error.kind() == ErrorKind::NotFound => String::new(),
@@ -56,8 +56,8 @@ impl AccountFile {
         Ok(fs::write(&self.file, text)?)
     }
 
-    /// The number after which the tokens of this process begin. Those of the next one begin above them, so a process
-    /// that was cut off and still writes has lower ones.
+    /// Returns the number after which this process's tokens begin. The next process's tokens begin above all of them.
+    /// So if this process is cut off and goes on writing, its tokens are lower.
     fn claim(&mut self) -> Result<u64, BoxError> {
         let after = self.after;
         self.after += MAX_GENERATION;
@@ -65,10 +65,10 @@ impl AccountFile {
         Ok(after)
     }
 
-    /// Adds 1, as `UPDATE .. SET balance = balance + 1, token = ?1 WHERE shard = ?2 AND token <= ?1` does. A write that
-    /// changes no row is an error.
+    /// Adds 1, as `UPDATE .. SET balance = balance + 1, token = ?1 WHERE shard = ?2 AND token <= ?1` does. If the write
+    /// changes no row, it is an error.
     fn add(&mut self, shard: u16, token: u64) -> Result<(), BoxError> {
-        // Another process may have written meanwhile.
+        // Another process may have written in the meantime.
         *self = AccountFile::open(self.file.clone())?;
         let account = &mut self.accounts[usize::from(shard)];
         if token < account.token {

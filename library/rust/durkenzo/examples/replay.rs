@@ -1,9 +1,9 @@
-//! Sees that what a store was told of shards' records is what the proved rule makes of them.
+//! Checks that a store's record of each shard follows from the proved rule.
 //!
-//! Each line of the input is a shard's number and the word of its record after a change, in the order of the changes; a
-//! shard begins as vacant. With `anew` behind them the change isn't judged, as others before it weren't told. Says how
-//! many changes there were, and those that no change of the rule leads to; the exit status is 1 where there is such a
-//! one, or a line can't be read.
+//! Each line of the input is a shard's number and the word of its record after a change, in the order of the changes. A
+//! shard begins as vacant. If `anew` follows the word, the change isn't checked, because the changes before it weren't
+//! told. Prints how many changes there were, and each one that the rule doesn't allow. The exit status is 1 if there is
+//! one, or if a line can't be read.
 use durkenzo::word::{changed, record, Change};
 use durkenzo::{Stand, MAX_GENERATION};
 use std::collections::BTreeMap;
@@ -12,7 +12,7 @@ use std::process::ExitCode;
 
 const VACANT: u64 = 0;
 
-/// The servers that a record names.
+/// Returns the servers that a record names.
 fn named(stand: Stand) -> Vec<u16> {
     match stand {
         Stand::Vacant => vec![],
@@ -22,7 +22,7 @@ fn named(stand: Stand) -> Vec<u16> {
     }
 }
 
-/// The change that leads from one word to another, if there is one.
+/// Returns the change that leads from one word to another, if there is one.
 fn change_between(before: u64, after: u64) -> Option<Change> {
     let servers = record(after).map(|it| named(it.stand)).unwrap_or_default();
     let of_server = [Change::Assign, Change::PrepareAddShard, Change::Reassign];
@@ -42,7 +42,7 @@ fn change_between(before: u64, after: u64) -> Option<Change> {
         .find(|it| changed(before, *it, MAX_GENERATION) == Ok(after))
 }
 
-/// The shard, its word, and whether the change is judged, as a line says.
+/// Returns the shard, its word, and whether the change must be checked, from a line.
 fn told(line: &str) -> Option<(u16, u64, bool)> {
     let words: Vec<&str> = line.split(' ').collect();
     match words[..] {

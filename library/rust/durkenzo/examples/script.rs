@@ -1,11 +1,11 @@
-//! Answers a script of docs/SCRIPT.md by the library: whatever `sm_cli model` answers, this answers too.
+//! Answers a script of docs/SCRIPT.md by the library. Its answers are those of `sm_cli model`.
 //!
 //! ```console
 //! $ cargo run --example script SERVERS RESTARTS CEILING BOUND.. < script.in
 //! ```
 //!
-//! The settings line is passed over: the board has servers 1 to SERVERS, each in a domain of its own and with room for
-//! all shards, which may all be down. `load` isn't answered.
+//! It skips the settings line: the board has servers 1 to SERVERS. Each server has a domain of its own and room for all
+//! shards, and all servers may be down. `load` isn't answered.
 use durkenzo::{
     Board, Control, Layout, Map, MapFault, Mode, Pass, Plan, Record, Reply, Request, RestartFault,
     Router, Routes, Stand, Value,
@@ -17,7 +17,7 @@ use std::str::FromStr;
 
 const MOST_HOPS: usize = 4;
 
-/// What a shard's keys hold, and how many requests the shard has had.
+/// The values of a shard's keys, and how many requests the shard has had.
 struct Body {
     map: Map,
     requests: u64,
@@ -31,7 +31,7 @@ impl Body {
         })
     }
 
-    /// Returns the text of the reply to a request of the sample service, which the library's own map gives.
+    /// Returns the text of the reply to a request of the sample service, which comes from the library's own map.
     fn reply(&mut self, word: &str, key: &[u8], rest: &[u8]) -> Vec<u8> {
         let request = request(word, key, rest);
         match self.map.ask(&request).expect("memory is there") {
@@ -46,7 +46,7 @@ impl Body {
     }
 }
 
-/// Returns the request that these words of a line are.
+/// Returns the request in these words of a line.
 fn request<'a>(word: &str, key: &'a [u8], rest: &'a [u8]) -> Request<'a> {
     match word {
         "get" => Request::Get(key),
@@ -61,7 +61,7 @@ fn request<'a>(word: &str, key: &'a [u8], rest: &'a [u8]) -> Request<'a> {
     }
 }
 
-/// Returns the number that a word of a line without an error is.
+/// Returns the number in a word. The line must have no error.
 fn number<T: FromStr>(word: &[u8]) -> T {
     let number = std::str::from_utf8(word)
         .ok()
@@ -69,7 +69,7 @@ fn number<T: FromStr>(word: &[u8]) -> T {
     number.expect("the line is without an error")
 }
 
-/// Returns a value as an answer shows it: behind the first word if it is a count, and behind the second if a text.
+/// Returns a value as an answer shows it: a count behind the first word, a text behind the second.
 fn shown_value(count: &str, text: &str, value: &Value) -> Vec<u8> {
     match value {
         Value::Count(held) => format!("{count}{held}").into_bytes(),
@@ -87,7 +87,7 @@ fn shown_pairs(pairs: &[(Vec<u8>, Value)]) -> Vec<u8> {
     shown
 }
 
-/// The word before the first space, and what follows that.
+/// Returns the word before the first space, and the rest after the space.
 fn split(line: &[u8]) -> (&[u8], &[u8]) {
     match line.iter().position(|byte| *byte == b' ') {
         Some(at) => (&line[..at], &line[at + 1..]),
@@ -99,13 +99,13 @@ struct ScriptSession {
     board: Board<Body>,
     routes: Routes,
     router: Router,
-    /// Passes that hold a shard, until they are dropped.
+    /// Passes that hold a shard until they are dropped.
     held: HashMap<u16, Pass<Body>>,
     layout: Layout,
     control: Control<Body>,
-    /// One of each server, from server 1.
+    /// One pass for each server, from server 1.
     passes: Vec<Pass<Body>>,
-    /// Whether requests reach the server.
+    /// Whether requests reach each server.
     reached: Vec<bool>,
 }
 
@@ -141,7 +141,7 @@ impl ScriptSession {
         })
     }
 
-    /// A permit that is forgotten keeps its shard until its pass is dropped.
+    /// A forgotten permit keeps its shard until its pass is dropped.
     fn hold(&mut self, shard: u16, server: u16) -> ScriptAnswer {
         let mut pass = self.pass(shard, server)?;
         std::mem::forget(pass.admit(shard, Mode::Direct).map_err(|it| named(&it))?);
@@ -155,7 +155,7 @@ impl ScriptSession {
         Ok(b"ok".to_vec())
     }
 
-    /// A body of another program has no requests to let go: an admission that changes nothing is all of a checkpoint.
+    /// Another program's body keeps no requests, so a checkpoint is only an admission that changes nothing.
     fn admit(&mut self, shard: u16, server: u16) -> ScriptAnswer {
         let mut pass = self.pass(shard, server)?;
         let permit = pass.admit(shard, Mode::Direct).map_err(|it| named(&it))?;
@@ -231,8 +231,8 @@ impl ScriptSession {
         }
     }
 
-    /// The name of the fault, and the shard that the server still serves: the library tells that one alone by the
-    /// records.
+    /// Returns the name of the fault, and the shard that the server still serves. The library finds that shard only by
+    /// the records.
     fn refused(&mut self, fault: RestartFault, server: u16) -> String {
         let name = format!("{fault:?}");
         if fault != RestartFault::StillServing {
@@ -258,7 +258,7 @@ impl ScriptSession {
         Ok(format!("{stand} {owner} {other} {admitted} {generation}").into_bytes())
     }
 
-    /// Sends a request to a server, or to the shard's owner, and on to where servers forward it.
+    /// Sends a request to a server, or to the shard's owner, and on to each server to which it is forwarded.
     fn request(&mut self, at: Option<u16>, request: &[u8]) -> ScriptAnswer {
         let (word, rest) = split(request);
         let (word, (key, rest)) = (std::str::from_utf8(word).unwrap(), split(rest));
@@ -295,7 +295,7 @@ impl ScriptSession {
     }
 }
 
-/// The name of a fault, without its record.
+/// Returns the name of a fault, without its record.
 fn named(fault: &impl std::fmt::Debug) -> String {
     let text = format!("{fault:?}");
     text.split('(').next().unwrap_or_default().to_owned()

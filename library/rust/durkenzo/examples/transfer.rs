@@ -1,4 +1,5 @@
-//! Sums go from account to account, each in a shard of its own, while shards migrate: who moves one holds both shards.
+//! Moves sums between accounts while shards migrate. Each account is in a shard of its own, and a transfer holds both
+//! shards.
 use durkenzo::{AdmitFault, Board, Control, Mode, Pass};
 use std::error::Error;
 use std::thread;
@@ -14,13 +15,13 @@ struct Account {
     balance: u64,
 }
 
-/// A pass of each server.
+/// Makes a pass for each server.
 fn passes(board: &Board<Account>) -> Result<Vec<Pass<Account>>, BoxError> {
     let passes = (1..=SERVERS).map(|it| board.pass(it));
     Ok(passes.collect::<Result<_, _>>()?)
 }
 
-/// Has the work be done on the account as the server that executes its shard now, once there is one.
+/// Waits until a server executes the account's shard, and runs the work on the account as that server.
 fn with<R>(
     passes: &mut [Pass<Account>],
     shard: u16,
@@ -35,13 +36,14 @@ fn with<R>(
     unreachable!("there are servers")
 }
 
-/// Moves the sum where the payer has it, and says whether he had. A pass holds one shard at a time, so there are two.
+/// Moves the sum if the payer has it, and returns whether he had. It takes two passes, because a pass holds one shard
+/// at a time.
 fn transfer(
     [ones, others]: &mut [Vec<Pass<Account>>; 2],
     (from, to): (u16, u16),
     sum: u64,
 ) -> Result<bool, AdmitFault> {
-    // All take the lower shard first: so no two wait for each other.
+    // Everyone takes the lower shard first, so no two threads wait for each other.
     with(ones, from.min(to), |low| {
         with(others, from.max(to), |high| {
             let (payer, payee) = match from < to {
@@ -58,7 +60,7 @@ fn transfer(
     })?
 }
 
-/// Makes many transfers, and returns how many were made.
+/// Makes many transfers. Returns how many succeeded.
 fn serve(board: &Board<Account>, thread: u16) -> Result<u64, BoxError> {
     let mut passes = [passes(board)?, passes(board)?];
     let mut done = 0;

@@ -9,19 +9,19 @@ use std::cell::UnsafeCell;
 use std::fmt;
 use std::sync::{Arc, Mutex, MutexGuard, PoisonError};
 
-/// What all that belongs to a board shares.
+/// The state that all handles of a board share.
 pub(crate) struct Shared<T> {
     chief: Mutex<Handle>,
-    /// Reached through a permit alone, until the last owner takes them out.
+    /// Reached only through a permit, until the last owner takes the bodies out.
     bodies: Box<[UnsafeCell<T>]>,
 }
 
-// SAFETY: a body is reached through a permit alone, of which a shard has one at a time; so the board passes bodies
-// between threads, and shares none.
+// SAFETY: a body is reached only through a permit, and a shard has at most one permit at a time. So the board sends
+// bodies between threads, and never shares one.
 unsafe impl<T: Send> Sync for Shared<T> {}
 
 impl<T> Shared<T> {
-    /// What all that belongs to a board shares where the library has the bodies itself.
+    /// Returns the shared state of a board whose bodies the library keeps itself.
     pub(crate) fn without_bodies(chief: Handle) -> Shared<T> {
         Shared {
             chief: Mutex::new(chief),
@@ -29,18 +29,18 @@ impl<T> Shared<T> {
         }
     }
 
-    /// The control's handle. Nothing that holds it can panic in the midst of a change, so poison says nothing.
+    /// Returns the control's handle. Poison can be ignored, because no holder can panic in the middle of a change.
     pub(crate) fn chief(&self) -> MutexGuard<'_, Handle> {
         self.chief.lock().unwrap_or_else(PoisonError::into_inner)
     }
 
-    /// The place of the body with this number.
+    /// Returns the place of the body with this number.
     pub(crate) fn body(&self, number: u64) -> *mut T {
         self.bodies[number as usize].get()
     }
 }
 
-/// A board: a body for each shard, and who may use it. A clone is another way to the same board.
+/// A board: a body for each shard, and the rules of who may use it. A clone is a handle to the same board.
 pub struct Board<T> {
     shared: Arc<Shared<T>>,
 }
@@ -56,46 +56,46 @@ pub struct Builder {
 }
 
 impl Builder {
-    /// Servers 1 to this one, at most 4,095. There is one where nothing is said.
+    /// Sets the number of servers, at most 4,095. They are numbered from 1. The default is 1.
     pub fn servers(mut self, servers: u16) -> Builder {
         self.servers = servers;
         self
     }
 
-    /// How many servers may be away for a restart at once. It is one where nothing is said.
+    /// Sets how many servers may be away for a restart at once. The default is 1.
     pub fn restarts(mut self, restarts: u16) -> Builder {
         self.restarts = restarts;
         self
     }
 
-    /// The greatest generation of a shard, 3 to 2^36 - 1, which it is where nothing is said.
+    /// Sets the greatest generation of a shard, from 3 to 2^36 - 1. The default is 2^36 - 1.
     pub fn ceiling(mut self, ceiling: u64) -> Builder {
         self.ceiling = ceiling;
         self
     }
 
-    /// The number after which the board's [fencing tokens](crate::Permit::token) begin, which is 0 where nothing is
-    /// said: each of them is greater, and at most `after + MAX_GENERATION`. Raise a number of your store by
-    /// [`MAX_GENERATION`] at each start, in one transaction, and give it as it was before: then each token is above all
-    /// tokens of earlier boards, also of one that still writes (`examples/fenced.rs`).
+    /// Sets the number after which the board's [fencing tokens](crate::Permit::token) begin. The default is 0. Each
+    /// token is greater than this number, and at most `after + MAX_GENERATION`. At each start, raise a number in your
+    /// store by [`MAX_GENERATION`] in one transaction, and pass its old value here. Then each token is above all tokens
+    /// of earlier boards, even if an earlier board is still writing (`examples/fenced.rs`).
     pub fn after(mut self, token: u64) -> Builder {
         self.after = token;
         self
     }
 
-    /// A board with these bodies, 1 to 4,096: one for each shard, in order. Nobody owns a shard yet.
+    /// Builds a board with these bodies, 1 to 4,096: one for each shard, in order. At first nobody owns a shard.
     ///
     /// # Errors
     ///
-    /// `NoShard` and `TooMany` by the bodies, `BadServers` and `BadCeiling` by the sizes, `BadAfter` where tokens would
-    /// have more than 63 bits, or `NoMemory`.
+    /// `NoShard` or `TooMany` if the number of bodies is wrong, `BadServers` or `BadCeiling` if a size is wrong,
+    /// `BadAfter` if tokens would have more than 63 bits, or `NoMemory`.
     pub fn build<T>(self, bodies: impl IntoIterator<Item = T>) -> Result<Board<T>, BuildFault> {
         if self.servers == 0 {
             return Err(BuildFault::BadServers);
         }
         let (bodies, numbers) = numbered(bodies);
         let mut chief = Handle::empty();
-        // SAFETY: the handle is this call's alone, and the slice lasts as long as the call.
+        // SAFETY: only this call uses the handle, and the slice lasts as long as the call.
         let code = unsafe {
             raw::durkenzo_open_after(
                 &mut chief,
@@ -114,7 +114,7 @@ impl Builder {
     }
 }
 
-/// The bodies in their places, and the number of each.
+/// Returns the bodies in their places, and the number of each.
 fn numbered<T>(bodies: impl IntoIterator<Item = T>) -> (Box<[UnsafeCell<T>]>, Vec<u64>) {
     let bodies: Box<[_]> = bodies.into_iter().map(UnsafeCell::new).collect();
     let numbers = (0..bodies.len() as u64).collect();
@@ -122,7 +122,7 @@ fn numbered<T>(bodies: impl IntoIterator<Item = T>) -> (Box<[UnsafeCell<T>]>, Ve
 }
 
 impl Board<()> {
-    /// The sizes of a new board, whose bodies `build` takes.
+    /// Returns the sizes of a new board. Its `build` takes the bodies.
     pub fn builder() -> Builder {
         Builder {
             servers: 1,
@@ -143,13 +143,14 @@ impl<T> Board<T> {
         }
     }
 
-    /// A board with these bodies as the line of settings says with which a script begins, and its layout: its servers
-    /// with their capacities, its groups, domains and limits bind. Its workers and kept requests are for other engines.
-    /// The bodies are as many as its shards. Nobody owns a shard yet.
+    /// Makes a board with these bodies, from the line of settings that begins a script, and returns it with its layout.
+    /// The line's servers with their capacities, groups, domains and limits all hold here. Its workers and its limit of
+    /// kept requests don't: they are for other engines. There must be as many bodies as the line has shards. At first
+    /// nobody owns a shard.
     ///
     /// # Errors
     ///
-    /// The first rule that the line breaks, `BadCount` where the bodies aren't as many as its shards, or `NoMemory`.
+    /// The first rule that the line breaks, `BadCount` if there are not as many bodies as shards, or `NoMemory`.
     ///
     /// ```
     /// use durkenzo::Board;
@@ -172,11 +173,12 @@ impl<T> Board<T> {
         Board::by_settings_after(line, bodies, 0)
     }
 
-    /// The same, whose [fencing tokens](crate::Permit::token) begin after this number, as [`Builder::after`] says.
+    /// Makes the same board. Its [fencing tokens](crate::Permit::token) begin after this number, as described at
+    /// [`Builder::after`].
     ///
     /// # Errors
     ///
-    /// Those of [`Board::by_settings`], and `BadAfter` where tokens would have more than 63 bits.
+    /// Those of [`Board::by_settings`], and `BadAfter` if tokens would have more than 63 bits.
     pub fn by_settings_after(
         line: impl AsRef<[u8]>,
         bodies: impl IntoIterator<Item = T>,
@@ -185,7 +187,7 @@ impl<T> Board<T> {
         let (bodies, numbers) = numbered(bodies);
         let (mut chief, mut layout) = (Handle::empty(), Handle::empty());
         let line = line.as_ref();
-        // SAFETY: the handles are this call's alone, and the slices last as long as the call.
+        // SAFETY: only this call uses the handles, and the slices last as long as the call.
         let code = unsafe {
             raw::durkenzo_open_bodies_after(
                 &mut chief,
@@ -203,35 +205,35 @@ impl<T> Board<T> {
         }
     }
 
-    /// The number of shards.
+    /// Returns the number of shards.
     pub fn count(&self) -> usize {
         self.shared.bodies.len()
     }
 
-    /// A new pass, admitted as this server.
+    /// Makes a pass, which acts as this server.
     ///
     /// # Errors
     ///
-    /// `BadServer` where the board has no such server, or `NoMemory`.
+    /// `BadServer` if the board has no such server, or `NoMemory`.
     pub fn pass(&self, server: u16) -> Result<Pass<T>, PassFault> {
         let mut handle = Handle::empty();
-        // SAFETY: the control's handle is locked, and the other is this call's alone.
+        // SAFETY: the control's handle is locked, and only this call uses the other.
         match unsafe { raw::durkenzo_pass(&mut *self.shared.chief(), &mut handle, server) } {
             0 => Ok(Pass::new(self.shared.clone(), handle)),
             code => Err(PassFault::of(code)),
         }
     }
 
-    /// The control of this board.
+    /// Returns the control of this board.
     pub fn control(&self) -> Control<T> {
         Control::new(self.shared.clone())
     }
 
-    /// The bodies, where nothing else belongs to the board: no clone, no pass and no control.
+    /// Returns the bodies, if this is the board's only handle: there must be no clone, no pass and no control.
     ///
     /// # Errors
     ///
-    /// The board again, where something else belongs to it.
+    /// Returns the board again if it has another handle.
     pub fn into_bodies(self) -> Result<Vec<T>, Board<T>> {
         let shared = Arc::try_unwrap(self.shared).map_err(|shared| Board { shared })?;
         Ok(shared

@@ -7,17 +7,17 @@ pub enum Change {
     Assign(u16),
     /// Begins a migration of the shard to this server.
     PrepareAddShard(u16),
-    /// Has the owner stop executing, and forward to the next owner.
+    /// Makes the owner stop executing, and forward to the next owner.
     PrepareDropShard,
-    /// Makes the next owner the owner, to whom the previous one forwards.
+    /// Makes the next owner the owner; the previous owner forwards to it.
     AddShard,
-    /// Ends the migration, as the previous owner drops the shard.
+    /// Ends the migration: the previous owner drops the shard.
     DropShard,
-    /// Gives up a migration before the next owner is the owner.
+    /// Gives up a migration, if the next owner isn't the owner yet.
     Cancel,
-    /// Has nobody execute the shard's requests.
+    /// Pauses the shard: no server executes its requests.
     Pause,
-    /// Has the owner of a paused shard execute again.
+    /// Makes the owner of a paused shard execute again.
     Resume,
     /// Gives a paused shard this owner.
     Reassign(u16),

@@ -10,20 +10,22 @@ use crate::restore_fault::RestoreFault;
 use std::fmt;
 use std::sync::Arc;
 
-/// The control of a board: it alone changes who owns a shard. Each call takes the control's lock for its own time.
+/// The control of a board, which alone can change who owns a shard. Each call holds the control's lock while it runs.
 ///
 /// # Restarts
 ///
 /// A server restarts in this order: [`Control::ask`], [`Control::approve`] within the caps, a [`Control::migrate`] for
-/// each move of [`Control::plan_drain`], and [`Control::stopped`]. Its passes go then, and it begins anew, with
-/// [`Control::back`] and a `migrate` home for each shard that left. Whoever gives it up before calls `back` too.
+/// each move of [`Control::plan_drain`], and [`Control::stopped`]. End the server's passes then. When the server
+/// begins again, call [`Control::back`], and `migrate` for each shard that has to move home. Call `back` too if you
+/// give up the restart before that.
 ///
 /// # Errors
 ///
-/// A change is refused by `UnknownShard` or `UnknownServer` where there is none, `WrongPhase` or `SameServer` where it
-/// doesn't begin from the shard's stand, `Leaving`, `NoCapacity` or `DomainLimit` by the server that it names, and
-/// `Spent`, `Busy` or `Raced` by the record that was read. A step of a restart is refused by `UnknownServer`, by a cap,
-/// or by how far the server's restart is. What is refused changes no stand.
+/// A change is refused by `UnknownShard` or `UnknownServer` if there is no such shard or server. It is refused by
+/// `WrongPhase` or `SameServer` if the shard's stand doesn't allow it. `Leaving`, `NoCapacity` and `DomainLimit` are
+/// about the server that the change names; `Spent`, `Busy` and `Raced` are about the record that was read. A step of a
+/// restart is refused by `UnknownServer`, by a cap, or by the stage of the server's restart. A refused call changes no
+/// stand, except for [`Control::migrate`] and [`Control::restore`], which make several changes.
 pub struct Control<T> {
     shared: Arc<Shared<T>>,
 }
@@ -37,7 +39,7 @@ impl<T> Control<T> {
     ///
     /// # Errors
     ///
-    /// As [a change](Control#errors).
+    /// [Those of a change](Control#errors).
     pub fn assign(&self, shard: u16, server: u16) -> Result<(), ChangeFault> {
         self.change(shard, Change::Assign(server))
     }
@@ -46,34 +48,34 @@ impl<T> Control<T> {
     ///
     /// # Errors
     ///
-    /// As [a change](Control#errors).
+    /// [Those of a change](Control#errors).
     pub fn prepare_add_shard(&self, shard: u16, server: u16) -> Result<(), ChangeFault> {
         self.change(shard, Change::PrepareAddShard(server))
     }
 
-    /// Has the shard's owner stop executing, and forward to the next owner.
+    /// Makes the shard's owner stop executing, and forward to the next owner.
     ///
     /// # Errors
     ///
-    /// As [a change](Control#errors).
+    /// [Those of a change](Control#errors).
     pub fn prepare_drop_shard(&self, shard: u16) -> Result<(), ChangeFault> {
         self.change(shard, Change::PrepareDropShard)
     }
 
-    /// Makes the next owner the owner, to whom the previous one forwards.
+    /// Makes the next owner the owner. The previous owner forwards to it.
     ///
     /// # Errors
     ///
-    /// As [a change](Control#errors).
+    /// [Those of a change](Control#errors).
     pub fn add_shard(&self, shard: u16) -> Result<(), ChangeFault> {
         self.change(shard, Change::AddShard)
     }
 
-    /// Ends the migration, as the previous owner drops the shard.
+    /// Ends the migration: the previous owner drops the shard.
     ///
     /// # Errors
     ///
-    /// As [a change](Control#errors).
+    /// [Those of a change](Control#errors).
     pub fn drop_shard(&self, shard: u16) -> Result<(), ChangeFault> {
         self.change(shard, Change::DropShard)
     }
@@ -82,25 +84,25 @@ impl<T> Control<T> {
     ///
     /// # Errors
     ///
-    /// As [a change](Control#errors).
+    /// [Those of a change](Control#errors).
     pub fn cancel(&self, shard: u16) -> Result<(), ChangeFault> {
         self.change(shard, Change::Cancel)
     }
 
-    /// Has nobody execute the shard's requests.
+    /// Stops all execution of the shard's requests.
     ///
     /// # Errors
     ///
-    /// As [a change](Control#errors).
+    /// [Those of a change](Control#errors).
     pub fn pause(&self, shard: u16) -> Result<(), ChangeFault> {
         self.change(shard, Change::Pause)
     }
 
-    /// Has the owner of a paused shard execute again.
+    /// Makes the owner of a paused shard execute again.
     ///
     /// # Errors
     ///
-    /// As [a change](Control#errors).
+    /// [Those of a change](Control#errors).
     pub fn resume(&self, shard: u16) -> Result<(), ChangeFault> {
         self.change(shard, Change::Resume)
     }
@@ -109,21 +111,21 @@ impl<T> Control<T> {
     ///
     /// # Errors
     ///
-    /// As [a change](Control#errors).
+    /// [Those of a change](Control#errors).
     pub fn reassign(&self, shard: u16, server: u16) -> Result<(), ChangeFault> {
         self.change(shard, Change::Reassign(server))
     }
 
-    /// Moves the shard to this server by a whole migration, whose steps are tried again while the shard is admitted:
-    /// for ever where that admission doesn't end, as where the calling thread holds the permit, or has forgotten it and
-    /// its pass lives. It publishes no route: whoever keeps [`Routes`](crate::Routes) takes the steps one by one, and
-    /// publishes before `drop_shard`.
+    /// Moves the shard to this server by a whole migration. While the shard is admitted, each step is tried again. If
+    /// that admission never ends, `migrate` never returns: for example, because the calling thread holds the permit, or
+    /// has forgotten it while its pass lives. `migrate` publishes no route. If you keep [`Routes`](crate::Routes), take
+    /// the steps one by one, and publish before `drop_shard`.
     ///
     /// # Errors
     ///
-    /// As [a change](Control#errors), but for `Busy` and `Raced`. The steps before the refused one stay made, and leave
-    /// the shard in the midst of its migration: [`Control::cancel`] goes back from before `add_shard`, and
-    /// [`Control::drop_shard`] ends what comes after it.
+    /// [Those of a change](Control#errors), except for `Busy` and `Raced`. If a step is refused, the steps before it
+    /// stay made, and the shard is left in the middle of its migration. Before `add_shard`, [`Control::cancel`] goes
+    /// back; after it, [`Control::drop_shard`] ends the migration.
     pub fn migrate(&self, shard: u16, server: u16) -> Result<(), ChangeFault> {
         again(|| self.prepare_add_shard(shard, server))?;
         again(|| self.prepare_drop_shard(shard))?;
@@ -131,13 +133,13 @@ impl<T> Control<T> {
         again(|| self.drop_shard(shard))
     }
 
-    /// Makes the changes that lead a vacant shard, or one on its way, to the stand, as where an older board's is to be
-    /// reached anew. Its generations aren't reached: tokens go on from its own where the board is opened
-    /// [`after`](crate::Builder::after) them.
+    /// Makes the changes that lead a vacant shard, or a shard on its way, to this stand. Use it to restore an older
+    /// board's shard. It restores no generation: open the board [`after`](crate::Builder::after) the older board's
+    /// fencing tokens, so that its own are greater.
     ///
     /// # Errors
     ///
-    /// `Change` with the first change that is refused, before which those stay made, or `NoMemory`.
+    /// `Change` with the first change that is refused, or `NoMemory`. The changes before the refused one stay made.
     pub fn restore(&self, shard: u16, to: Stand) -> Result<(), RestoreFault> {
         let (from, mut at) = (self.stand(shard)?, to);
         let mut changes = Vec::new();
@@ -152,11 +154,11 @@ impl<T> Control<T> {
         Ok(())
     }
 
-    /// Asks for a restart of the server: the first step of [these](Control#restarts).
+    /// Asks for a restart of the server. This is the first step of [a restart](Control#restarts).
     ///
     /// # Errors
     ///
-    /// As [a step](Control#errors).
+    /// [Those of a step](Control#errors).
     pub fn ask(&self, server: u16) -> Result<(), RestartFault> {
         self.restart(server, RestartStep::Ask)
     }
@@ -165,54 +167,54 @@ impl<T> Control<T> {
     ///
     /// # Errors
     ///
-    /// As [a step](Control#errors).
+    /// [Those of a step](Control#errors).
     pub fn approve(&self, server: u16) -> Result<(), RestartFault> {
         self.restart(server, RestartStep::Approve)
     }
 
-    /// Notes that the server was stopped for its restart, once it serves no shard.
+    /// Notes that the server was stopped for its restart. The server must not serve any shard.
     ///
     /// # Errors
     ///
-    /// As [a step](Control#errors).
+    /// [Those of a step](Control#errors).
     pub fn stopped(&self, server: u16) -> Result<(), RestartFault> {
         self.restart(server, RestartStep::Stopped)
     }
 
-    /// Notes that the server is up again, also where it had failed, or where its restart is given up.
+    /// Notes that the server is up again, after a restart or a failure, or that its restart is given up.
     ///
     /// # Errors
     ///
-    /// As [a step](Control#errors).
+    /// [Those of a step](Control#errors).
     pub fn back(&self, server: u16) -> Result<(), RestartFault> {
         self.restart(server, RestartStep::Back)
     }
 
-    /// Notes that the server failed. That changes no shard: its own passes are admitted to what it owns until
-    /// [`Control::pause`], behind which [`Control::reassign`] gives the shard another owner.
+    /// Notes that the server failed. This changes no shard: until [`Control::pause`], the server's own passes are still
+    /// admitted to its shards. After the pause, [`Control::reassign`] gives the shard another owner.
     ///
     /// # Errors
     ///
-    /// As [a step](Control#errors).
+    /// [Those of a step](Control#errors).
     pub fn fail(&self, server: u16) -> Result<(), RestartFault> {
         self.restart(server, RestartStep::Fail)
     }
 
-    /// Plans where the vacant shards go: each by number to the lowest server that it fits, earlier moves counted as
-    /// made. Nothing is moved.
+    /// Plans where the vacant shards go, and moves nothing. In the order of their numbers, each shard goes to the
+    /// lowest server that it fits, as if the earlier moves were made.
     ///
     /// # Errors
     ///
-    /// `NoMemory`.
+    /// `NoMemory` if memory for the plan is refused.
     pub fn plan_assign(&self) -> Result<Plan, PlanFault> {
         self.plan(0)
     }
 
-    /// Plans where the shards go that this server serves, to other servers. Nothing is moved.
+    /// Plans to which other servers this server's shards go, and moves nothing.
     ///
     /// # Errors
     ///
-    /// `UnknownServer` where there is none, or `NoMemory`.
+    /// `UnknownServer` if there is no such server, or `NoMemory`.
     pub fn plan_drain(&self, server: u16) -> Result<Plan, PlanFault> {
         match server {
             0 => Err(PlanFault::UnknownServer),
@@ -222,28 +224,28 @@ impl<T> Control<T> {
 
     fn plan(&self, from: u16) -> Result<Plan, PlanFault> {
         let mut plan = Handle::empty();
-        // SAFETY: the control's handle is locked, and the other is this call's alone.
+        // SAFETY: the control's handle is locked, and only this call uses the other.
         match unsafe { raw::durkenzo_plan(&mut *self.shared.chief(), &mut plan, from) } {
             0 => Ok(Plan::of(plan)),
             code => Err(PlanFault::of(code)),
         }
     }
 
-    // The shard's stand, which a pass of any server sees.
+    // Returns the shard's stand, which a pass of any server sees.
     fn stand(&self, shard: u16) -> Result<Stand, RestoreFault> {
         let mut pass = self.any_pass()?;
-        // SAFETY: the handle is this call's alone.
+        // SAFETY: only this call uses the handle.
         match unsafe { raw::durkenzo_look_word(&mut pass, shard) } {
             raw::NO_WORD => Err(ChangeFault::UnknownShard.into()),
             word => Ok(Record::of_word(word).stand),
         }
     }
 
-    // A pass of the board's first server, whose number settings tell.
+    // Returns a pass of the board's first server. Its number is in the settings.
     fn any_pass(&self) -> Result<Handle, RestoreFault> {
         let (mut chief, mut pass) = (self.shared.chief(), Handle::empty());
         for server in 1..=MAX_SERVER {
-            // SAFETY: the control's handle is locked, and the other is this call's alone.
+            // SAFETY: the control's handle is locked, and only this call uses the other.
             match unsafe { raw::durkenzo_pass(&mut *chief, &mut pass, server) } {
                 0 => return Ok(pass),
                 raw::UNKNOWN_SERVER => {}
@@ -257,10 +259,10 @@ impl<T> Control<T> {
     ///
     /// # Errors
     ///
-    /// As [a change](Control#errors).
+    /// [Those of a change](Control#errors).
     pub fn change(&self, shard: u16, change: Change) -> Result<(), ChangeFault> {
         let ((kind, server), mut read) = (change.parts(), RecordParts::default());
-        // SAFETY: the control's handle is locked, and the record is this call's alone.
+        // SAFETY: the control's handle is locked, and only this call uses the record.
         match unsafe {
             raw::durkenzo_change(&mut *self.shared.chief(), shard, kind, server, &mut read)
         } {
@@ -273,7 +275,7 @@ impl<T> Control<T> {
     ///
     /// # Errors
     ///
-    /// As [a step](Control#errors).
+    /// [Those of a step](Control#errors).
     pub fn restart(&self, server: u16, step: RestartStep) -> Result<(), RestartFault> {
         let kind = step.number();
         // SAFETY: the control's handle is locked.
@@ -298,7 +300,7 @@ impl<T> fmt::Debug for Control<T> {
     }
 }
 
-/// Makes the change, and again while another thread had the shard or was first.
+/// Makes the change, and tries again while another thread has the shard or was first.
 fn again(change: impl Fn() -> Result<(), ChangeFault>) -> Result<(), ChangeFault> {
     loop {
         match change() {

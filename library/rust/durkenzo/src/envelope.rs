@@ -7,8 +7,8 @@ use crate::service::Texts;
 use std::fmt;
 use std::sync::Arc;
 
-/// A request to the sample service on its way, with what its sender had seen. The library keeps how it came and how
-/// often it was forwarded, so a host that forwards it hands on just this.
+/// A request to the sample service on its way, with all that its sender had seen. The library keeps its mode and its
+/// hops, so a program that forwards a request only has to pass the envelope on.
 pub struct Envelope {
     pub(crate) handle: Handle,
     pub(crate) shared: Arc<Shared<Texts>>,
@@ -24,26 +24,26 @@ impl Envelope {
         }
     }
 
-    /// The shard that it is for.
+    /// Returns the shard of its request.
     pub fn shard(&self) -> u16 {
         self.shard
     }
 
-    /// How it came to the server that serves it next.
+    /// Returns how it came to the server that serves it next.
     pub fn mode(&mut self) -> Mode {
         self.sent().mode
     }
 
-    /// How often it was forwarded, 0 to 4.
+    /// Returns how often it was forwarded, from 0 to 4.
     pub fn hops(&mut self) -> u8 {
         self.sent().hops
     }
 
-    /// The envelope but for its request and its note: what goes with the request to another process, where
+    /// Returns the envelope without its request and its note. Send this to another process with the request. There
     /// [`ServicePass::received`](crate::ServicePass::received) makes the envelope again.
     pub fn sent(&mut self) -> Sent {
         let mut parts = SentParts::default();
-        // SAFETY: the handle is this envelope's, which is borrowed alone.
+        // SAFETY: this envelope is borrowed exclusively and owns the handle.
         let code = unsafe { raw::durkenzo_sent(&mut self.handle, &mut parts) };
         assert_eq!(code, 0, "the handle of an envelope keeps it");
         Sent::of(&parts)
@@ -58,7 +58,7 @@ impl fmt::Debug for Envelope {
     }
 }
 
-/// The answer to a request, and what its server had then seen.
+/// The answer to a request, and all that its server had then seen.
 pub struct Answer {
     pub(crate) handle: Handle,
     pub(crate) shared: Arc<Shared<Texts>>,
@@ -81,22 +81,22 @@ impl Answer {
         }
     }
 
-    /// The number of its envelope.
+    /// Returns the number of its envelope.
     pub fn number(&self) -> u64 {
         self.number
     }
 
-    /// How many requests of the shard were executed before this one.
+    /// Returns how many requests of the shard were executed before this one.
     pub fn place(&self) -> u64 {
         self.place
     }
 
-    /// The server that executed the request.
+    /// Returns the server that executed the request.
     pub fn server(&self) -> u16 {
         self.server
     }
 
-    /// The reply.
+    /// Returns the reply.
     pub fn reply(&self) -> &Reply {
         &self.reply
     }

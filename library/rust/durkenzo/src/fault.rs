@@ -1,9 +1,9 @@
-//! Why calls are refused.
+//! Why a call is refused.
 use crate::record::Record;
 use std::error::Error;
 use std::fmt;
 
-/// Why a shard isn't looked at.
+/// The board has no such shard.
 #[derive(Clone, Copy, Debug, PartialEq, Eq)]
 pub struct UnknownShard;
 
@@ -16,7 +16,7 @@ impl fmt::Display for UnknownShard {
 impl Error for UnknownShard {}
 
 impl AdmitFault {
-    /// The record that was read, or found, where one was.
+    /// Returns the record that was read or found, if there was one.
     pub fn record(&self) -> Option<Record> {
         use AdmitFault::*;
         match *self {
@@ -26,14 +26,15 @@ impl AdmitFault {
         }
     }
 
-    /// Whether the same call may be admitted at once when it is made again: another thread had the shard or was first.
+    /// Returns whether the same call may succeed if you make it again at once, because another thread had the shard or
+    /// was first.
     pub fn is_passing(&self) -> bool {
         matches!(self, AdmitFault::Admitted(_) | AdmitFault::Raced(_))
     }
 }
 
 impl ChangeFault {
-    /// The record that was read, or found, where one was.
+    /// Returns the record that was read or found, if there was one.
     pub fn record(&self) -> Option<Record> {
         match *self {
             ChangeFault::Spent(it) | ChangeFault::Busy(it) | ChangeFault::Raced(it) => Some(it),
@@ -41,7 +42,7 @@ impl ChangeFault {
         }
     }
 
-    /// Whether the same change may be made at once when it is asked for again.
+    /// Returns whether the same change may succeed if you ask for it again at once.
     pub fn is_passing(&self) -> bool {
         matches!(self, ChangeFault::Busy(_) | ChangeFault::Raced(_))
     }
@@ -49,11 +50,11 @@ impl ChangeFault {
 
 // By tools/library-codes, the faults of library/codes.txt:
 
-/// Why there is no board.
+/// Why a board can't be made.
 #[derive(Clone, Copy, Debug, PartialEq, Eq)]
 #[non_exhaustive]
 pub enum BuildFault {
-    /// A board has 1 to 4,095 servers, and as many restarts at once at most.
+    /// A board has 1 to 4,095 servers, and at most 4,095 restarts at once.
     BadServers,
     /// Out of memory.
     NoMemory,
@@ -63,7 +64,7 @@ pub enum BuildFault {
     NoShard,
     /// A board has at most 4,096 shards.
     TooMany,
-    /// Fencing tokens begin after at most 9,223,371,968,135,299,072.
+    /// Fencing tokens begin after a number of at most 9,223,371,968,135,299,072.
     BadAfter,
     /// The library answered this code, which this version doesn't know.
     Other(u32),
@@ -88,13 +89,15 @@ impl fmt::Display for BuildFault {
     fn fmt(&self, f: &mut fmt::Formatter<'_>) -> fmt::Result {
         f.write_str(match self {
             BuildFault::BadServers => {
-                "a board has 1 to 4,095 servers, and as many restarts at once at most"
+                "a board has 1 to 4,095 servers, and at most 4,095 restarts at once"
             }
             BuildFault::NoMemory => "out of memory",
             BuildFault::BadCeiling => "the ceiling of generations is 3 to 68,719,476,735",
             BuildFault::NoShard => "a board has at least one shard",
             BuildFault::TooMany => "a board has at most 4,096 shards",
-            BuildFault::BadAfter => "fencing tokens begin after at most 9,223,371,968,135,299,072",
+            BuildFault::BadAfter => {
+                "fencing tokens begin after a number of at most 9,223,371,968,135,299,072"
+            }
             BuildFault::Other(code) => return write!(f, "the library answered code {code}"),
         })
     }
@@ -102,7 +105,7 @@ impl fmt::Display for BuildFault {
 
 impl Error for BuildFault {}
 
-/// Why there is no pass.
+/// Why a pass can't be made.
 #[derive(Clone, Copy, Debug, PartialEq, Eq)]
 #[non_exhaustive]
 pub enum PassFault {
@@ -204,7 +207,7 @@ impl fmt::Display for AdmitFault {
 
 impl Error for AdmitFault {}
 
-/// Why a change of a shard isn't made, with the record that was read where one was.
+/// Why a change of a shard isn't made, with the record if one was read.
 #[derive(Clone, Copy, Debug, PartialEq, Eq)]
 #[non_exhaustive]
 pub enum ChangeFault {
@@ -344,7 +347,7 @@ impl fmt::Display for RestartFault {
 
 impl Error for RestartFault {}
 
-/// Why bounds are no layout.
+/// Why bounds don't make a layout.
 #[derive(Clone, Copy, Debug, PartialEq, Eq)]
 #[non_exhaustive]
 pub enum LayoutFault {
@@ -395,7 +398,7 @@ impl fmt::Display for LayoutFault {
 
 impl Error for LayoutFault {}
 
-/// Why a request to a map is refused, which then changes nothing.
+/// Why a request to a map is refused; the map then stays as it was.
 #[derive(Clone, Copy, Debug, PartialEq, Eq)]
 #[non_exhaustive]
 pub enum MapFault {
@@ -443,7 +446,7 @@ impl fmt::Display for MapFault {
 
 impl Error for MapFault {}
 
-/// Why there is no envelope.
+/// Why an envelope can't be made.
 #[derive(Clone, Copy, Debug, PartialEq, Eq)]
 #[non_exhaustive]
 pub enum SendFault {
@@ -498,7 +501,7 @@ pub enum ServeFault {
     TooManyHops,
     /// The shard keeps as many requests as it may: make a checkpoint.
     KeptFull,
-    /// The envelope is of another board.
+    /// The envelope belongs to another board.
     OtherBoard,
     /// The server isn't admitted to the shard.
     Admit(AdmitFault),
@@ -524,7 +527,7 @@ impl fmt::Display for ServeFault {
             ServeFault::WrongShard => "the request's key is of another shard",
             ServeFault::TooManyHops => "the request was forwarded too often",
             ServeFault::KeptFull => "the shard keeps as many requests as it may: make a checkpoint",
-            ServeFault::OtherBoard => "the envelope is of another board",
+            ServeFault::OtherBoard => "the envelope belongs to another board",
             ServeFault::Admit(fault) => return fault.fmt(f),
         })
     }
@@ -539,7 +542,7 @@ impl Error for ServeFault {
     }
 }
 
-/// Why a shard made no checkpoint.
+/// Why a shard didn't make a checkpoint.
 #[derive(Clone, Copy, Debug, PartialEq, Eq)]
 #[non_exhaustive]
 pub enum CheckpointFault {
@@ -577,7 +580,7 @@ impl Error for CheckpointFault {
     }
 }
 
-/// Why there is no plan.
+/// Why a plan can't be made.
 #[derive(Clone, Copy, Debug, PartialEq, Eq)]
 #[non_exhaustive]
 pub enum PlanFault {
@@ -612,7 +615,7 @@ impl fmt::Display for PlanFault {
 
 impl Error for PlanFault {}
 
-/// Why a note isn't made, or isn't told.
+/// Why a note isn't made, or a pass doesn't meet it.
 #[derive(Clone, Copy, Debug, PartialEq, Eq)]
 #[non_exhaustive]
 pub enum NoteFault {
@@ -620,7 +623,7 @@ pub enum NoteFault {
     Holding,
     /// Out of memory.
     NoMemory,
-    /// The note is of another board.
+    /// The note belongs to another board.
     OtherBoard,
     /// The library answered this code, which this version doesn't know.
     Other(u32),
@@ -642,7 +645,7 @@ impl fmt::Display for NoteFault {
         f.write_str(match self {
             NoteFault::Holding => "the pass holds a permit that was forgotten",
             NoteFault::NoMemory => "out of memory",
-            NoteFault::OtherBoard => "the note is of another board",
+            NoteFault::OtherBoard => "the note belongs to another board",
             NoteFault::Other(code) => return write!(f, "the library answered code {code}"),
         })
     }
@@ -650,7 +653,7 @@ impl fmt::Display for NoteFault {
 
 impl Error for NoteFault {}
 
-/// Why there is no map of routes, or no router of one.
+/// Why a map of routes, or a router of one, can't be made.
 #[derive(Clone, Copy, Debug, PartialEq, Eq)]
 #[non_exhaustive]
 pub enum RoutesFault {

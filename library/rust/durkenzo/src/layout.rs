@@ -1,4 +1,4 @@
-//! How keys are given to shards.
+//! Which shard each key belongs to.
 //!
 //! ```
 //! use durkenzo::Layout;
@@ -15,27 +15,27 @@ use std::sync::atomic::{AtomicUsize, Ordering::Relaxed};
 use std::sync::{Mutex, MutexGuard, OnceLock, PoisonError};
 use std::thread;
 
-/// The most copies of a layout.
+/// A layout has at most this many copies.
 const MAX_COPIES: usize = 16;
 
 static THREADS: AtomicUsize = AtomicUsize::new(0);
 
 thread_local! {
-    /// How many threads have asked a layout before this one.
+    /// How many threads asked a layout before this one.
     static EARLIER: usize = THREADS.fetch_add(1, Relaxed);
 }
 
-/// How the key space is cut into shards: shard k has the keys from bound k on, up to the next bound.
+/// How the key space is cut into shards: shard k has the keys from bound k up to, but without, the next bound.
 ///
-/// Threads may share it. As a handle is used by one call at a time, threads that run beside each other ask copies of
-/// it, which are made where they are first needed.
+/// Threads may share a layout. Only one call at a time can use a handle, so the layout makes copies of its handle for
+/// threads that run at the same time, when they first need them.
 pub struct Layout {
     count: usize,
     first: Mutex<Handle>,
     copies: Box<[OnceLock<Mutex<Handle>>]>,
 }
 
-/// The handle of the layout with these bounds, or the code of why there is none.
+/// Returns the handle of the layout with these bounds, or the code of the refusal.
 fn cut<B: AsRef<[u8]>>(bounds: impl IntoIterator<Item = B>) -> (Result<Handle, u32>, usize) {
     let (mut text, mut parts) = (Vec::new(), Vec::new());
     for bound in bounds {
@@ -47,7 +47,7 @@ fn cut<B: AsRef<[u8]>>(bounds: impl IntoIterator<Item = B>) -> (Result<Handle, u
         });
     }
     let mut handle = Handle::empty();
-    // SAFETY: the handle is this call's alone, and the slices last as long as the call.
+    // SAFETY: only this call uses the handle, and the slices last as long as the call.
     let code = unsafe {
         raw::durkenzo_layout(
             &mut handle,
@@ -66,11 +66,12 @@ fn locked(handle: &Mutex<Handle>) -> MutexGuard<'_, Handle> {
 }
 
 impl Layout {
-    /// The layout with these bounds: 1 to 4,096 of at most 255 bytes, which rise from the empty one.
+    /// Makes the layout with these bounds: 1 to 4,096, each of at most 255 bytes. The first must be empty, and each
+    /// must be greater than the one before.
     ///
     /// # Errors
     ///
-    /// `Empty`, `TooMany`, `FirstNotEmpty`, `NotRising` or `BoundTooLong` by the rule that the bounds break, or
+    /// `Empty`, `TooMany`, `FirstNotEmpty`, `NotRising` or `BoundTooLong`, by the rule that the bounds break, or
     /// `NoMemory`.
     pub fn new<B: AsRef<[u8]>>(bounds: impl IntoIterator<Item = B>) -> Result<Layout, LayoutFault> {
         match cut(bounds) {
@@ -79,7 +80,7 @@ impl Layout {
         }
     }
 
-    /// The layout of so many shards that the handle keeps.
+    /// Returns the layout that the handle keeps, which has this many shards.
     pub(crate) fn of(handle: Handle, count: usize) -> Layout {
         let threads = thread::available_parallelism().map_or(1, usize::from);
         Layout {
@@ -91,12 +92,12 @@ impl Layout {
         }
     }
 
-    /// The number of shards.
+    /// Returns the number of shards.
     pub fn count(&self) -> usize {
         self.count
     }
 
-    /// The shard of the key, which may be any bytes.
+    /// Returns the shard of the key. Any bytes are a key.
     pub fn shard_of(&self, key: impl AsRef<[u8]>) -> u16 {
         let (key, mut shard) = (key.as_ref(), 0);
         // SAFETY: the handle is locked, and the slice lasts as long as the call.
@@ -107,14 +108,14 @@ impl Layout {
         shard
     }
 
-    /// The bound at which the shard begins, and the one at which the next shard begins, if there is one; none where
-    /// there is no such shard.
+    /// Returns the bound at which the shard begins, and the one at which the next shard begins, if there is one.
+    /// Returns `None` if there is no such shard.
     pub fn range(&self, shard: u16) -> Option<(Vec<u8>, Option<Vec<u8>>)> {
         let low = self.bound(shard)?;
         Some((low, shard.checked_add(1).and_then(|it| self.bound(it))))
     }
 
-    /// What the call makes of a handle that keeps the layout, which is locked meanwhile.
+    /// Returns the result of the call on a handle that keeps the layout. The handle is locked while the call runs.
     pub(crate) fn with<R>(&self, call: impl FnOnce(&mut Handle) -> R) -> R {
         let turn = EARLIER.with(|it| *it) % (self.copies.len() + 1);
         let handle = match turn.checked_sub(1) {
@@ -124,7 +125,7 @@ impl Layout {
         call(&mut locked(handle))
     }
 
-    /// This copy of the first handle, or that one, where memory for a copy is refused.
+    /// Returns this copy of the first handle, or the first handle itself if memory for a copy is refused.
     fn copy(&self, at: usize) -> &Mutex<Handle> {
         if let Some(copy) = self.copies[at].get() {
             return copy;
@@ -142,10 +143,10 @@ impl Layout {
     }
 }
 
-/// The bound at which the shard begins, if there is such a shard.
+/// Returns the bound at which the shard begins, if there is such a shard.
 fn bound_in(layout: &mut Handle, shard: u16) -> Option<Vec<u8>> {
     let (mut bound, mut length) = (vec![0; 255], 0);
-    // SAFETY: the handle is borrowed alone, and the room is this call's.
+    // SAFETY: this call borrows the handle exclusively, and only this call uses the room.
     let code =
         unsafe { raw::durkenzo_bound(layout, shard, bound.as_mut_ptr(), bound.len(), &mut length) };
     bound.truncate(length);

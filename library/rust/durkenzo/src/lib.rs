@@ -1,8 +1,9 @@
-//! Shards that move between servers while each has one writer, decided by proved code.
+//! Shards that move between servers, each with at most one writer at a time. Proved code decides who the writer is.
 //!
-//! A [`Board`] keeps a body of any type for each shard. A thread makes a [`Pass`] as one of the board's servers, and is
-//! admitted to a shard where that server executes the shard's requests and nobody else is admitted. The [`Permit`] then
-//! borrows the body, without a lock of its own. A [`Control`] moves shards between servers meanwhile.
+//! A [`Board`] keeps a body of any type for each shard. A thread makes a [`Pass`], which acts as one of the board's
+//! servers. The pass is admitted to a shard if its server executes the shard's requests and nobody else is admitted.
+//! The [`Permit`] then borrows the body, without a lock of its own. Meanwhile a [`Control`] moves shards between
+//! servers.
 //!
 //! ```
 //! use durkenzo::{Board, Mode};
@@ -18,11 +19,11 @@
 //! # Ok::<(), Box<dyn std::error::Error>>(())
 //! ```
 //!
-//! Which server is admitted to a shard, and that no two permits of a shard live at once, is decided by proved code.
-//! That this crate calls it as its contracts ask, and reaches a body through a permit alone, is not proved: it is the
-//! unsafe code here.
+//! Proved code decides which server is admitted to a shard, and that no two permits of a shard live at once. The unsafe
+//! code of this crate is not proved. It must call the proved code as its contracts ask, and it must reach a body only
+//! through a permit.
 //!
-//! A pass has one permit at a time, and no permit outlives its end or its pass:
+//! A pass has one permit at a time. No permit outlives its end or its pass:
 //! ```compile_fail,E0499
 //! # use durkenzo::{Board, Mode};
 //! # let board = Board::builder().servers(1).build(vec![0u64; 2]).unwrap();
@@ -47,7 +48,7 @@
 //! drop(pass);
 //! drop(permit);
 //! ```
-//! A body never outlives its permit, so a permit of one board can't be ended on another: it has no call that takes one.
+//! A body never outlives its permit. A permit of one board can't be ended on another, because no call takes a permit:
 //! ```compile_fail,E0505
 //! # use durkenzo::{Board, Mode};
 //! # let board = Board::builder().servers(1).build(vec![String::new()]).unwrap();
@@ -65,7 +66,7 @@
 //! let permit = pass.admit(0, Mode::Direct).unwrap();
 //! other.finish(permit);
 //! ```
-//! Bodies that may not pass between threads keep the board in one:
+//! If bodies can't be sent between threads, the board can't either:
 //! ```compile_fail,E0277
 //! # use durkenzo::Board;
 //! let board = Board::builder().servers(1).build(vec![std::rc::Rc::new(0)]).unwrap();
@@ -123,5 +124,5 @@ pub use service::{Service, ServiceBuilder, Texts};
 pub use service_pass::{ServeRefused, Served, ServicePass};
 pub use settings_fault::SettingsFault;
 
-/// Whether the library under this crate was proved; one that `tools/unproved --library` built wasn't.
+/// Whether the library under this crate was proved. A library built by `tools/unproved --library` wasn't.
 pub const IS_PROVED: bool = option_env!("DURKENZO_UNPROVED").is_none();

@@ -1,4 +1,4 @@
-//! Texts and counts by key, as a body of yours: the sample service, proved.
+//! A map of texts and counts by key, which you can use as a board's body. It is the proved sample service.
 //!
 //! ```
 //! use durkenzo::{Map, Reply, Request, Value};
@@ -21,21 +21,21 @@ use std::fmt;
 
 /// A map from keys of 1 to 255 bytes to texts of at most 65,535 bytes and counts of 64 bits, in the order of the keys.
 ///
-/// A call that is refused changes nothing.
+/// If a call is refused, it changes nothing.
 pub struct Map {
     handle: Handle,
     reply: Handle,
 }
 
 impl Map {
-    /// An empty map.
+    /// Makes an empty map.
     ///
     /// # Errors
     ///
-    /// `NoMemory`.
+    /// `NoMemory` if memory for the map is refused.
     pub fn new() -> Result<Map, MapFault> {
         let mut handle = Handle::empty();
-        // SAFETY: the handle is this call's alone.
+        // SAFETY: only this call uses the handle.
         match unsafe { raw::durkenzo_map(&mut handle) } {
             0 => Ok(Map {
                 handle,
@@ -45,48 +45,48 @@ impl Map {
         }
     }
 
-    /// How many keys hold something.
+    /// Returns how many keys hold a value.
     #[inline]
     pub fn len(&mut self) -> u64 {
         let mut length = 0;
-        // SAFETY: the handle is this value's alone.
+        // SAFETY: this value owns the handle.
         let code = unsafe { raw::durkenzo_map_length(&mut self.handle, &mut length) };
         assert_eq!(code, 0, "the handle of a map keeps it");
         length
     }
 
-    /// Whether no key holds anything.
+    /// Returns whether no key holds a value.
     pub fn is_empty(&mut self) -> bool {
         self.len() == 0
     }
 
-    /// The reply to the request.
+    /// Executes the request, and returns the reply.
     ///
     /// # Errors
     ///
-    /// `EmptyKey`, `KeyTooLong` or `NoMemory`.
+    /// `EmptyKey` or `KeyTooLong` if the key has a wrong length, or `NoMemory`.
     pub fn ask(&mut self, request: &Request<'_>) -> Result<Reply, MapFault> {
         self.lend(request).map(Into::into)
     }
 
-    /// The same, with a text that is copied where and when you want it.
+    /// Executes the request, and returns a reply whose text you copy where and when you want it.
     ///
     /// # Errors
     ///
-    /// `EmptyKey`, `KeyTooLong` or `NoMemory`.
-    // Where it is inlined, a reply is told from others by its number alone.
+    /// `EmptyKey` or `KeyTooLong` if the key has a wrong length, or `NoMemory`.
+    // When this is inlined, replies are told apart only by their numbers.
     #[inline]
     pub fn lend(&mut self, request: &Request<'_>) -> Result<LentReply<'_>, MapFault> {
         let parts = self.call(request)?;
         LentReply::of(&mut self.reply, &parts)
     }
 
-    // The parts of the reply, of which its handle keeps the bytes.
+    // Returns the parts of the reply. Its bytes stay in the map's handle.
     #[inline]
     fn call(&mut self, request: &Request<'_>) -> Result<ReplyParts, MapFault> {
         let (kind, key, other, amount) = request.parts();
         let mut parts = ReplyParts::default();
-        // SAFETY: the handles are this value's alone, and the slices last as long as the call.
+        // SAFETY: this value owns the handles, and the slices last as long as the call.
         let code = unsafe {
             raw::durkenzo_ask(
                 &mut self.handle,
@@ -106,8 +106,8 @@ impl Map {
         }
     }
 
-    /// What the key holds, if anything, where a text stands in front of your room, which grows where it has too few
-    /// bytes.
+    /// Returns the value of the key, if it has one. A text is written at the start of your room, which grows if it is
+    /// too small.
     ///
     /// # Errors
     ///
@@ -120,7 +120,7 @@ impl Map {
     ) -> Result<Option<Held<'a>>, MapFault> {
         let key = key.as_ref();
         let mut parts = self.parts_in(key, room)?;
-        // A text alone has a length.
+        // Only a text has a length.
         if parts.kind == 2 && parts.length > room.len() {
             let length = parts.length.next_power_of_two();
             let reserved = room.try_reserve_exact(length - room.len());
@@ -136,11 +136,11 @@ impl Map {
         })
     }
 
-    /// What the key holds, if anything, where a text is told by its length alone and none of it is copied.
+    /// Returns the value of the key, if it has one. Of a text it returns only the length, and copies nothing.
     ///
     /// # Errors
     ///
-    /// `EmptyKey` or `KeyTooLong`.
+    /// `EmptyKey` or `KeyTooLong` if the key has a wrong length.
     #[inline]
     pub fn measure(&mut self, key: impl AsRef<[u8]>) -> Result<Option<Measure>, MapFault> {
         let parts = self.parts_in(key.as_ref(), &mut [])?;
@@ -152,11 +152,11 @@ impl Map {
         })
     }
 
-    // The parts of what the key holds, of which a text is written where it fits.
+    // Returns the parts of the key's value. If it is a text that fits, its bytes are written to the room.
     #[inline]
     fn parts_in(&mut self, key: &[u8], room: &mut [u8]) -> Result<ReplyParts, MapFault> {
         let mut parts = ReplyParts::default();
-        // SAFETY: the handle is this value's alone, and the slices last as long as the call.
+        // SAFETY: this value owns the handle, and the slices last as long as the call.
         let code = unsafe {
             raw::durkenzo_get(
                 &mut self.handle,
@@ -173,11 +173,11 @@ impl Map {
         }
     }
 
-    /// What the key holds, if anything.
+    /// Returns the value of the key, if it has one.
     ///
     /// # Errors
     ///
-    /// `EmptyKey`, `KeyTooLong` or `NoMemory`.
+    /// `EmptyKey` or `KeyTooLong` if the key has a wrong length, or `NoMemory`.
     pub fn get(&mut self, key: impl AsRef<[u8]>) -> Result<Option<Value>, MapFault> {
         match self.ask(&Request::Get(key.as_ref()))? {
             Reply::Value(value) => Ok(Some(value)),
@@ -185,17 +185,17 @@ impl Map {
         }
     }
 
-    /// Has the key hold the text, in place of the text that it held.
+    /// Makes the key hold this text, and replaces the text that it held.
     ///
     /// # Errors
     ///
-    /// Those of [`Map::ask`], `WrongKind` where the key holds a count, or `TextTooLong`.
+    /// Those of [`Map::ask`], `WrongKind` if the key holds a count, or `TextTooLong`.
     pub fn put(&mut self, key: impl AsRef<[u8]>, text: impl AsRef<[u8]>) -> Result<(), MapFault> {
         self.made(&Request::Put(key.as_ref(), text.as_ref()))
             .map(drop)
     }
 
-    /// Has the key hold its text followed by this one, where a key that holds nothing counts as the empty text.
+    /// Appends this text to the key's text. If the key holds nothing, its text is empty before that.
     ///
     /// # Errors
     ///
@@ -209,11 +209,11 @@ impl Map {
             .map(drop)
     }
 
-    /// Adds to the key's count, where a key that holds nothing counts as 0: the sum.
+    /// Adds to the key's count, and returns the sum. If the key holds nothing, its count is 0 before that.
     ///
     /// # Errors
     ///
-    /// Those of [`Map::ask`], `WrongKind` where the key holds a text, or `Overflow`.
+    /// Those of [`Map::ask`], `WrongKind` if the key holds a text, or `Overflow`.
     pub fn add(&mut self, key: impl AsRef<[u8]>, amount: i64) -> Result<i64, MapFault> {
         let parts = self.made(&Request::Add(key.as_ref(), amount))?;
         match LentReply::of(&mut self.reply, &parts)? {
@@ -222,7 +222,7 @@ impl Map {
         }
     }
 
-    /// Has the key hold nothing: whether it held something.
+    /// Removes the key's value. Returns whether it had one.
     ///
     /// # Errors
     ///
@@ -231,7 +231,7 @@ impl Map {
         Ok(self.ask(&Request::Remove(key.as_ref()))? == Reply::Done)
     }
 
-    /// The first pairs with keys from `low` on and below `high`, `most` of them and at most 100.
+    /// Returns the first pairs whose keys are at least `low` and below `high`: at most `most` of them, and at most 100.
     ///
     /// # Errors
     ///
@@ -248,7 +248,7 @@ impl Map {
         }
     }
 
-    // The parts of the reply to a request that was made, or why it changed nothing.
+    // Returns the parts of the reply if the request was executed, or why it changed nothing.
     #[inline]
     fn made(&mut self, request: &Request<'_>) -> Result<ReplyParts, MapFault> {
         let parts = self.call(request)?;

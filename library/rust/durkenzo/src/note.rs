@@ -3,7 +3,7 @@ use crate::raw::Handle;
 use std::fmt;
 use std::sync::Arc;
 
-/// What one pass tells another of its board: all that it had seen. It travels with a message to another thread.
+/// All that a pass has seen, for another pass of its board. Send it along with a message to another thread.
 pub struct Note<T> {
     pub(crate) handle: Handle,
     pub(crate) shared: Arc<Shared<T>>,

@@ -18,19 +18,19 @@ pub enum Mode {
     Forwarded(u16),
 }
 
-/// Where the end of an admission left its shard.
+/// The shard's state at the end of an admission.
 #[derive(Clone, Copy, Debug, PartialEq, Eq)]
 pub struct Front {
     /// The shard.
     pub shard: u16,
-    /// The shard's generation since then.
+    /// The shard's generation from then on.
     pub generation: u64,
 }
 
-/// What a thread acts on a board with, as one server for good. It has one permit at a time: a thread that needs two
-/// shards at once has two passes, and takes the lower shard first, as `examples/transfer.rs` does.
+/// A thread's access to a board. It acts as one server for as long as it lives, and has one permit at a time. A thread
+/// that needs two shards at once makes two passes, and takes the lower shard first, as `examples/transfer.rs` does.
 pub struct Pass<T> {
-    // Before what it is a pass on: a body may be dropped only after the admission.
+    // This field is before `shared`, because a body must not be dropped before the admission ends.
     handle: Handle,
     shared: Arc<Shared<T>>,
 }
@@ -40,27 +40,27 @@ impl<T> Pass<T> {
         Pass { handle, shared }
     }
 
-    /// The shard's record, as the pass then sees it.
+    /// Returns the shard's record, as the pass now sees it.
     ///
     /// # Errors
     ///
-    /// Where there is no such shard.
+    /// `UnknownShard` if there is no such shard.
     pub fn look(&mut self, shard: u16) -> Result<Record, UnknownShard> {
-        // SAFETY: the handle is this pass's, which is borrowed alone.
+        // SAFETY: this pass is borrowed exclusively and owns the handle.
         match unsafe { raw::durkenzo_look_word(&mut self.handle, shard) } {
             raw::NO_WORD => Err(UnknownShard),
             word => Ok(Record::of_word(word)),
         }
     }
 
-    /// A note of all that the pass has seen.
+    /// Makes a note of all that the pass has seen.
     ///
     /// # Errors
     ///
-    /// `Holding` while a permit of this pass was forgotten, or `NoMemory`.
+    /// `Holding` if a permit of this pass was forgotten and still holds its shard, or `NoMemory`.
     pub fn note(&mut self) -> Result<Note<T>, NoteFault> {
         let mut handle = Handle::empty();
-        // SAFETY: one handle is this pass's, which is borrowed alone, and the other this call's.
+        // SAFETY: this pass is borrowed exclusively and owns one handle, and only this call uses the other.
         match unsafe { raw::durkenzo_split(&mut self.handle, &mut handle) } {
             0 => Ok(Note {
                 handle,
@@ -70,40 +70,43 @@ impl<T> Pass<T> {
         }
     }
 
-    /// Tells the pass all that the note tells.
+    /// Tells the pass all that the note's maker had seen.
     ///
     /// # Errors
     ///
-    /// `OtherBoard` for a note of another board, or `Holding` while a permit of this pass was forgotten.
+    /// `OtherBoard` if the note is of another board, or `Holding` if a permit of this pass was forgotten.
     pub fn meet(&mut self, mut note: Note<T>) -> Result<(), NoteFault> {
         if !Arc::ptr_eq(&self.shared, &note.shared) {
             return Err(NoteFault::OtherBoard);
         }
-        // SAFETY: both handles are borrowed alone, and of one board.
+        // SAFETY: this call borrows both handles exclusively, and they are of one board.
         match unsafe { raw::durkenzo_meet(&mut self.handle, &mut note.handle) } {
             0 => Ok(()),
             code => Err(NoteFault::of(code)),
         }
     }
 
-    /// Admits the pass's server to the shard, for a request that came so.
+    /// Admits the pass's server to the shard, for a request that came in this mode.
     ///
     /// # Errors
     ///
-    /// `UnknownShard` or `BadServer` where there is none, `Holding` while a permit of this pass was forgotten, and the
-    /// others by the record that was read.
-    // Where it is inlined, who is admitted waits for no permit in memory, and a refusal is made as far as it is read.
+    /// `UnknownShard` or `BadServer` if there is no such shard or server, `Holding` if a permit of this pass was
+    /// forgotten. All other faults depend on the record that was read.
+    // When this is inlined, an admitted caller doesn't wait for a permit to be written to memory, and the compiler
+    // builds only the parts of a fault that the caller reads.
     #[inline(always)]
     pub fn admit(&mut self, shard: u16, mode: Mode) -> Result<Permit<'_, T>, AdmitFault> {
         self.enter(shard, mode)
             .map_err(|(code, word)| AdmitFault::of(code, Record::of_word(word)))
     }
 
-    /// Admits the pass, again while another thread has the shard or was first, and has the closure work on the body.
+    /// Admits the pass, and runs the closure on the body. While another thread has the shard or was first, it tries
+    /// again. If that admission never ends, `with` never returns: for example, because the calling thread holds the
+    /// permit by another pass.
     ///
     /// # Errors
     ///
-    /// As [`Pass::admit`], but for `Admitted` and `Raced`.
+    /// Those of [`Pass::admit`], except for `Admitted` and `Raced`.
     pub fn with<R>(
         &mut self,
         shard: u16,
@@ -118,7 +121,7 @@ impl<T> Pass<T> {
         }
     }
 
-    /// The permit; or the code of why there is none, and the word of the record that was read, or 0.
+    /// Returns the permit; or the code of the refusal, with the word of the record that was read, or 0.
     #[inline(always)]
     fn enter(&mut self, shard: u16, mode: Mode) -> Result<Permit<'_, T>, (u32, u64)> {
         let from = match mode {
@@ -137,8 +140,8 @@ impl<T> Pass<T> {
     }
 }
 
-/// Lets other threads go on, where one of them had the shard or was first; else says why the pass isn't admitted.
-// Outside of `with`, so that who is admitted at once saves no registers for it.
+/// Lets other threads run if one of them had the shard or was first. Otherwise returns why the pass isn't admitted.
+// Kept out of `with`, so that a caller who is admitted at once saves no registers for it.
 #[cold]
 #[inline(never)]
 fn wait_after(code: u32, word: u64) -> Result<(), AdmitFault> {
@@ -150,12 +153,12 @@ fn wait_after(code: u32, word: u64) -> Result<(), AdmitFault> {
     Ok(())
 }
 
-/// The right to a shard's body, which nobody else has. The admission ends where the permit is dropped, also by a
-/// panic: the body then stays as the panic left it, and others are admitted to it.
+/// The right to a shard's body, which nobody else has meanwhile. The admission ends when the permit is dropped. A panic
+/// drops it too: the body then stays as the panic left it, and others are admitted to it.
 ///
-/// It derefs to the body, of which its own [`shard`](Permit::shard), [`token`](Permit::token),
-/// [`generation`](Permit::generation) and [`finish`](Permit::finish) hide methods of these names: `(*permit).finish()`
-/// is the body's.
+/// A permit derefs to the body. Its own [`shard`](Permit::shard), [`token`](Permit::token),
+/// [`generation`](Permit::generation) and [`finish`](Permit::finish) hide the body's methods of these names: call the
+/// body's as `(*permit).finish()`.
 #[must_use = "the admission ends where the permit is dropped"]
 pub struct Permit<'a, T> {
     pass: &'a mut Pass<T>,
@@ -164,21 +167,23 @@ pub struct Permit<'a, T> {
     borrows: PhantomData<&'a mut T>,
 }
 
-// SAFETY: a permit is a loan of the body and of the pass, which is used through `&mut Permit` alone.
+// SAFETY: a permit borrows the body and the pass, which is used only through `&mut Permit`.
 unsafe impl<T: Send> Send for Permit<'_, T> {}
 
-// SAFETY: through `&Permit` nothing but `&T` and numbers are reached.
+// SAFETY: `&Permit` gives access only to `&T` and to numbers.
 unsafe impl<T: Send + Sync> Sync for Permit<'_, T> {}
 
 impl<T> Permit<'_, T> {
-    /// The shard.
+    /// Returns the shard.
     pub fn shard(&self) -> u16 {
         self.shard
     }
 
-    /// The fencing token of this admission. Each later admission to the shard has a greater one, so a store that keeps
-    /// the greatest that it saw, and refuses lesser ones, refuses late writes. A write that it refuses is an error:
-    /// nothing was written. Tokens of a board begin after what [`Builder::after`](crate::Builder::after) says.
+    /// Returns the fencing token of this admission. Each later admission to the shard has a greater token: this is
+    /// proved if its pass has seen what the earlier one had, by a [`Note`], and otherwise tested. So a store that keeps
+    /// the greatest token that it saw, and refuses smaller ones, refuses late writes. If a write is refused, treat it
+    /// as an error: nothing was written. A board's tokens begin after the number given to
+    /// [`Builder::after`](crate::Builder::after).
     ///
     /// ```
     /// # use durkenzo::{Board, Mode};
@@ -192,27 +197,27 @@ impl<T> Permit<'_, T> {
     /// ```
     pub fn token(&mut self) -> u64 {
         let mut token = 0;
-        // SAFETY: the handle is the pass's, which holds this permit.
+        // SAFETY: the handle belongs to the pass, which holds this permit.
         let code = unsafe { raw::durkenzo_token(&mut self.pass.handle, &mut token) };
         assert_eq!(code, 0, "the pass of a permit holds it");
         token
     }
 
-    /// The shard's generation at this admission. It begins at 0 in each board, so it is no fencing token: see
-    /// [`Permit::token`].
+    /// Returns the shard's generation at this admission. It begins at 0 in each board, so it must not be used as a
+    /// fencing token: use [`Permit::token`].
     pub fn generation(&mut self) -> u64 {
         let record = self.pass.look(self.shard);
         record.expect("the shard of a permit is there").generation
     }
 
-    /// Ends the admission, and says where that left the shard.
+    /// Ends the admission, and returns the shard's state after it.
     pub fn finish(self) -> Front {
         ManuallyDrop::new(self).end()
     }
 
     fn end(&mut self) -> Front {
         let mut generation = 0;
-        // SAFETY: the handle is the pass's, which holds this permit.
+        // SAFETY: the handle belongs to the pass, which holds this permit.
         let code = unsafe { raw::durkenzo_finish(&mut self.pass.handle, &mut generation) };
         debug_assert_eq!(code, 0, "the pass of a permit holds it");
         Front {
@@ -246,8 +251,8 @@ impl<T> Deref for Permit<'_, T> {
     type Target = T;
 
     fn deref(&self) -> &T {
-        // SAFETY: the number of the body is the one that the board was given for the shard, no other permit of the
-        // shard lives, and the pass keeps the bodies.
+        // SAFETY: the body's number is the one that the board was given for the shard, no other permit of the shard
+        // lives, and the pass keeps the bodies alive.
         unsafe { &*self.body }
     }
 }

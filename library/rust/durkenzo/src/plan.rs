@@ -1,32 +1,32 @@
 use crate::raw::{self, Handle};
 
-/// Where shards are to go, each in the order of the shards.
+/// Where shards should go. Both lists are in the order of the shards.
 #[derive(Clone, Debug, PartialEq, Eq)]
 pub struct Plan {
-    /// Shards, and the servers that they go to.
+    /// Shards, and the servers to which they go.
     pub moves: Vec<Move>,
-    /// The shards that fit no server in their turn.
+    /// The shards that fit on no server when their turn comes.
     pub left: Vec<u16>,
 }
 
-/// A shard and the server that it goes to.
+/// A shard and the server to which it goes.
 #[derive(Clone, Copy, Debug, PartialEq, Eq)]
 pub struct Move {
     /// The shard.
     pub shard: u16,
-    /// Where it goes.
+    /// The server to which it goes.
     pub server: u16,
 }
 
 impl Plan {
-    /// What the handle's plan says.
+    /// Returns the plan that the handle keeps.
     pub(crate) fn of(mut handle: Handle) -> Plan {
         let mut plan = Plan {
             moves: Vec::new(),
             left: Vec::new(),
         };
         let (mut shard, mut server) = (0, 0);
-        // SAFETY: the handle is this call's alone.
+        // SAFETY: only this call uses the handle.
         while unsafe { raw::durkenzo_move(&mut handle, plan.moves.len(), &mut shard, &mut server) }
             == 0
         {

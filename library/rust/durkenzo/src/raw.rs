@@ -1,7 +1,8 @@
 //! The calls of the proved library, as `durkenzo.h` declares them.
 use std::mem::{offset_of, size_of};
 
-/// What the library keeps between calls. It begins as zeros, isn't copied, and is used by one call at a time.
+/// The library's state between calls. It must begin as zeros, must not be copied, and must be used by one call at a
+/// time.
 #[repr(C)]
 #[derive(Debug)]
 pub(crate) struct Handle {
@@ -10,7 +11,7 @@ pub(crate) struct Handle {
 }
 
 impl Handle {
-    /// A handle that keeps nothing.
+    /// Returns a handle that keeps nothing.
     pub(crate) const fn empty() -> Handle {
         Handle {
             full: false,
@@ -19,13 +20,13 @@ impl Handle {
     }
 }
 
-// SAFETY: what a handle owns isn't tied to a thread (an `Arc` of the board with a pass, a permit, or the control, or one
-// of a map with its publisher or a router), and whoever has the handle uses it alone.
+// SAFETY: a handle owns nothing that is tied to a thread: an `Arc` of the board with a pass, a permit or the control,
+// or an `Arc` of a map with its publisher or a router. Whoever has the handle has it exclusively.
 unsafe impl Send for Handle {}
 
 impl Drop for Handle {
     fn drop(&mut self) {
-        // SAFETY: the handle is this value's alone.
+        // SAFETY: this value owns the handle.
         unsafe { durkenzo_close(self) }
     }
 }
@@ -49,7 +50,7 @@ pub(crate) struct Part {
     pub(crate) end: usize,
 }
 
-/// What was replied, or what a pair holds.
+/// A reply, or the value of a pair.
 #[repr(C)]
 #[derive(Clone, Copy, Default)]
 pub(crate) struct ReplyParts {
@@ -58,7 +59,7 @@ pub(crate) struct ReplyParts {
     pub(crate) kind: u8,
 }
 
-/// An envelope but for its request and its note.
+/// An envelope without its request and its note.
 #[repr(C)]
 #[derive(Clone, Copy, Default)]
 pub(crate) struct SentParts {
@@ -68,7 +69,7 @@ pub(crate) struct SentParts {
     pub(crate) hops: u8,
 }
 
-/// A shard's route, with server 0 where there is none.
+/// A shard's route. Its server is 0 if the shard has no route.
 #[repr(C)]
 #[derive(Clone, Copy, Default)]
 pub(crate) struct RouteParts {
@@ -76,7 +77,7 @@ pub(crate) struct RouteParts {
     pub(crate) server: u16,
 }
 
-/// An answer but for its reply.
+/// An answer without its reply.
 #[repr(C)]
 #[derive(Clone, Copy, Default)]
 pub(crate) struct AnswerParts {
@@ -85,7 +86,7 @@ pub(crate) struct AnswerParts {
     pub(crate) server: u16,
 }
 
-// As durkenzo.h has them, where library/c/test.c sees it.
+// The sizes that durkenzo.h has. There library/c/test.c checks them.
 const _: () = {
     assert!(size_of::<Handle>() == 16);
     assert!(offset_of!(Handle, full) == 0);
@@ -117,13 +118,13 @@ const _: () = {
     assert!(offset_of!(RouteParts, server) == 8);
 };
 
-/// What a call answers where a server is out of bounds.
+/// The code that a call returns if a server's number is out of bounds.
 pub(crate) const BAD_ARGUMENT: u32 = 2;
 
-/// The code of a server that the board hasn't.
+/// The code for a server that the board doesn't have.
 pub(crate) const UNKNOWN_SERVER: u32 = 30;
 
-/// What `durkenzo_look_word` answers where there is no shard to look at; no record has this word.
+/// The result of `durkenzo_look_word` if there is no such shard. No record has this word.
 pub(crate) const NO_WORD: u64 = u64::MAX;
 
 extern "C" {
@@ -313,12 +314,12 @@ extern "C" {
     pub(crate) fn durkenzo_executor(word: u64) -> u16;
 }
 
-/// The number of the shard's body, to which the pass is now admitted; or the code of why it isn't, and the word of the
-/// record that was read, or 0.
+/// Returns the number of the shard's body if the pass is now admitted to it. Otherwise returns the code of the refusal,
+/// and the word of the record that was read, or 0.
 #[inline(always)]
 pub(crate) fn admit(pass: &mut Handle, shard: u16, from: u16) -> Result<u64, (u32, u64)> {
     let (mut number, mut word) = (0, 0);
-    // SAFETY: the handle is borrowed alone, and the numbers are this call's.
+    // SAFETY: this call borrows the handle exclusively, and only this call uses the numbers.
     match unsafe { durkenzo_admit_word(pass, shard, from, &mut number, &mut word) } {
         0 => Ok(number),
         code => Err((code, word)),

@@ -28,14 +28,14 @@ pub enum Stand {
         /// The owner after the migration.
         next: u16,
     },
-    /// The next owner executes what the owner forwards to it.
+    /// The next owner executes the requests that the owner forwards to it.
     Forwarding {
         /// The owner, which forwards.
         owner: u16,
         /// The owner after the migration, which executes.
         next: u16,
     },
-    /// The new owner executes requests, and the previous one forwards what still reaches it.
+    /// The new owner executes requests, and the previous one forwards requests that still reach it.
     Taken {
         /// The owner, which executes.
         owner: u16,
@@ -47,12 +47,12 @@ pub enum Stand {
 }
 
 impl Stand {
-    /// How scripts and their answers name this kind of stand.
+    /// Returns the name of this kind of stand in scripts and in their answers.
     pub fn name(&self) -> &'static str {
         NAMES[usize::from(self.phase())]
     }
 
-    /// The server that has to own the shard first, where its stand is to be reached anew.
+    /// Returns the server that must own the shard first if a vacant shard is to reach this stand.
     pub fn first_owner(&self) -> Option<u16> {
         match *self {
             Stand::Vacant => None,
@@ -62,7 +62,8 @@ impl Stand {
         }
     }
 
-    /// The stand before this one on the shortest way from a vacant shard, and the change that leads on from there.
+    /// Returns the stand before this one on the shortest way from a vacant shard, and the change that leads on from
+    /// there.
     pub(crate) fn step_to(&self) -> Option<(Stand, Change)> {
         match *self {
             Stand::Vacant => None,
@@ -93,7 +94,7 @@ impl Stand {
     }
 }
 
-/// What the board holds for a shard.
+/// The board's entry for a shard.
 #[derive(Clone, Copy, Debug, PartialEq, Eq)]
 pub struct Record {
     /// Who owns the shard, and how far a migration of it has come.
@@ -105,7 +106,8 @@ pub struct Record {
 }
 
 impl Record {
-    /// The record of its word, which the library gave: `word::record` finds the same by a proved call.
+    /// Returns the record of this word, which must come from the library. `word::record` finds the same record by a
+    /// proved call.
     #[inline]
     pub(crate) fn of_word(word: u64) -> Record {
         Record::of(&RecordParts {
@@ -148,7 +150,7 @@ impl Record {
         }
     }
 
-    /// The server that owns the shard.
+    /// Returns the server that owns the shard.
     pub fn owner(&self) -> Option<u16> {
         match self.stand {
             Stand::Vacant => None,
@@ -159,7 +161,7 @@ impl Record {
         }
     }
 
-    /// The next or the previous owner, which a shard has during a migration.
+    /// Returns the next or the previous owner. A shard has one of them during a migration.
     pub fn other(&self) -> Option<u16> {
         match self.stand {
             Stand::Prepared { next, .. } | Stand::Forwarding { next, .. } => Some(next),
@@ -189,12 +191,12 @@ mod tests {
 
     type Servers = (Option<u16>, [Option<u16>; 2]);
 
-    /// Who executes, and to whom each of these servers forwards.
+    /// Returns the executor, and the server to which each of these servers forwards.
     fn asked(record: &Record, servers: [u16; 2]) -> Servers {
         (record.executor(), servers.map(|it| record.forward(it)))
     }
 
-    /// The same as a plain table has it.
+    /// Returns the same by a plain table.
     fn told(stand: Stand, servers: [u16; 2]) -> Servers {
         let (executor, forwards) = match stand {
             Stand::Vacant | Stand::Paused(_) => (None, None),
@@ -247,7 +249,7 @@ mod tests {
                 }
             }
         }
-        // Vacant shards have one record, paused ones are idle, and others have had an entry.
+        // A vacant shard has one record. A paused shard is idle. All others have had an entry.
         assert_eq!(read, 4 * (1 + 4 * 6 + 3));
     }
 }

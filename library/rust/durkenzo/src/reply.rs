@@ -1,9 +1,9 @@
-//! What the sample service replies.
+//! The replies of the sample service.
 use crate::fault::MapFault;
 use crate::limits::MAX_KEY;
 use crate::raw::{self, Handle, ReplyParts};
 
-/// What a key holds.
+/// The value of a key.
 #[derive(Clone, Debug, PartialEq, Eq)]
 pub enum Value {
     /// The bytes of a text.
@@ -12,7 +12,7 @@ pub enum Value {
     Count(i64),
 }
 
-/// What a key holds, of which a text stands in the caller's room.
+/// The value of a key. If it is a text, the bytes are in the caller's room.
 #[derive(Clone, Copy, Debug, PartialEq, Eq)]
 pub enum Held<'a> {
     /// The bytes of a text.
@@ -21,59 +21,59 @@ pub enum Held<'a> {
     Count(i64),
 }
 
-/// What a key holds, without the bytes of a text.
+/// The value of a key, without the bytes of a text.
 #[derive(Clone, Copy, Debug, PartialEq, Eq)]
 pub enum Measure {
-    /// How many bytes the text has.
+    /// The length of the text in bytes.
     Text(usize),
     /// A count.
     Count(i64),
 }
 
-/// What the sample service replies to a request.
+/// A reply of the sample service to a request.
 #[derive(Clone, Debug, PartialEq, Eq)]
 pub enum Reply {
     /// The key holds nothing, or held nothing to remove.
     Nothing,
-    /// The key holds the new text, or nothing where it was to hold nothing.
+    /// The key holds the new text; or it holds nothing, if the request was to remove it.
     Done,
-    /// What the key holds; after an addition the new count.
+    /// The value of the key. After an addition it is the new count.
     Value(Value),
     /// The pairs that a scan found, in the order of their keys.
     Pairs(Vec<(Vec<u8>, Value)>),
-    /// The key holds a count where the request is for a text, or a text where it is for a count; nothing has changed.
+    /// The key holds a count and the request is for a text, or the other way round. Nothing has changed.
     WrongKind,
-    /// The count would have more than 64 bits; nothing has changed.
+    /// The count would have more than 64 bits. Nothing has changed.
     Overflow,
-    /// The text would have more than 65,535 bytes; nothing has changed.
+    /// The text would have more than 65,535 bytes. Nothing has changed.
     TextTooLong,
 }
 
 impl Reply {
-    /// The reply with these parts, which the handle keeps.
+    /// Returns the reply with these parts. The handle keeps its bytes.
     pub(crate) fn of(handle: &mut Handle, parts: &ReplyParts) -> Result<Reply, MapFault> {
         LentReply::of(handle, parts).map(Into::into)
     }
 }
 
-/// A reply of which a text isn't copied before it is asked for.
+/// A reply whose text is copied only when the caller asks for it.
 #[derive(Debug)]
 pub enum LentReply<'a> {
     /// The key holds nothing, or held nothing to remove.
     Nothing,
-    /// The key holds the new text, or nothing where it was to hold nothing.
+    /// The key holds the new text; or it holds nothing, if the request was to remove it.
     Done,
     /// The key holds a text.
     Text(LentText<'a>),
-    /// The key holds a count; after an addition the new one.
+    /// The key holds a count. After an addition it is the new count.
     Count(i64),
     /// The pairs that a scan found, in the order of their keys.
     Pairs(Vec<(Vec<u8>, Value)>),
-    /// The key holds what the request isn't for; nothing has changed.
+    /// The key holds a value of the other kind. Nothing has changed.
     WrongKind,
-    /// The count would have more than 64 bits; nothing has changed.
+    /// The count would have more than 64 bits. Nothing has changed.
     Overflow,
-    /// The text would have more than 65,535 bytes; nothing has changed.
+    /// The text would have more than 65,535 bytes. Nothing has changed.
     TextTooLong,
 }
 
@@ -99,7 +99,7 @@ impl<'a> LentReply<'a> {
 }
 
 impl LentReply<'_> {
-    /// Why the request of the reply with these parts changed nothing, if that is so.
+    /// Returns why the request changed nothing, if the reply with these parts refuses it.
     #[inline]
     pub(crate) fn refusal(parts: &ReplyParts) -> Option<MapFault> {
         match parts.kind {
@@ -126,7 +126,7 @@ impl From<LentReply<'_>> for Reply {
     }
 }
 
-/// The text of a reply, where the map keeps it until the next request.
+/// The text of a reply. The map keeps it until the next request.
 #[derive(Debug)]
 pub struct LentText<'a> {
     handle: &'a mut Handle,
@@ -134,29 +134,29 @@ pub struct LentText<'a> {
 }
 
 impl LentText<'_> {
-    /// How many bytes it has.
+    /// Returns how many bytes it has.
     pub fn len(&self) -> usize {
         self.length
     }
 
-    /// Whether it has none.
+    /// Returns whether it has no bytes.
     pub fn is_empty(&self) -> bool {
         self.length == 0
     }
 
-    /// Writes it behind what is there.
+    /// Appends it to the bytes in `into`.
     pub fn append_to(self, into: &mut Vec<u8>) {
         let (start, mut written) = (into.len(), 0);
         into.resize(start + self.length, 0);
         let room = &mut into[start..];
-        // SAFETY: the handle is borrowed alone, and the room too.
+        // SAFETY: this call borrows both the handle and the room exclusively.
         let code = unsafe {
             raw::durkenzo_reply_text(self.handle, room.as_mut_ptr(), room.len(), &mut written)
         };
         assert_eq!((code, written), (0, self.length), "a text has its length");
     }
 
-    /// A copy.
+    /// Returns a copy.
     pub fn into_vec(self) -> Vec<u8> {
         let mut text = Vec::with_capacity(self.length);
         self.append_to(&mut text);
@@ -164,12 +164,12 @@ impl LentText<'_> {
     }
 }
 
-/// So many pairs, which are all of the reply; or `NoMemory`.
+/// Returns all pairs of the reply, which has this many, or `NoMemory`.
 fn pairs_of(handle: &mut Handle, count: usize) -> Result<Vec<(Vec<u8>, Value)>, MapFault> {
     (0..count).map(|at| pair_of(handle, at)).collect()
 }
 
-/// Room for so many bytes; or `NoMemory`.
+/// Returns room for this many bytes, or `NoMemory`.
 fn room(length: usize) -> Result<Vec<u8>, MapFault> {
     let mut room = Vec::new();
     room.try_reserve_exact(length)
@@ -178,10 +178,10 @@ fn room(length: usize) -> Result<Vec<u8>, MapFault> {
     Ok(room)
 }
 
-/// The pair at this place of the reply; or `NoMemory`.
+/// Returns the pair at this place of the reply, or `NoMemory`.
 fn pair_of(handle: &mut Handle, at: usize) -> Result<(Vec<u8>, Value), MapFault> {
     let (mut parts, mut key, mut length) = (ReplyParts::default(), room(MAX_KEY)?, 0);
-    // SAFETY: the handle is borrowed alone, and the rooms are this call's.
+    // SAFETY: this call borrows the handle exclusively, and only this call uses the rooms.
     let code = unsafe { raw::durkenzo_pair(handle, at, &mut parts) };
     assert_eq!(code, 0, "a reply has its pairs");
     // SAFETY: as above.

@@ -1,27 +1,28 @@
-//! What is asked of the sample service.
+//! The requests of the sample service.
 
 /// A request to the sample service. Keys have 1 to 255 bytes, texts at most 65,535.
 #[derive(Clone, Copy, Debug, PartialEq, Eq)]
 pub enum Request<'a> {
-    /// What does the key hold?
+    /// Returns the value of the key.
     Get(&'a [u8]),
-    /// The key is to hold the text, in place of the text that it held.
+    /// Makes the key hold the text, and replaces the text that it held.
     Put(&'a [u8], &'a [u8]),
-    /// The key is to hold its text followed by this one; a key that holds nothing counts as the empty text.
+    /// Appends this text to the key's text. If the key holds nothing, its text is empty before that.
     Append(&'a [u8], &'a [u8]),
-    /// The number is to be added to the key's count; a key that holds nothing counts as 0.
+    /// Adds the number to the key's count. If the key holds nothing, its count is 0 before that.
     Add(&'a [u8], i64),
-    /// The key is to hold nothing.
+    /// Removes the key's value.
     Remove(&'a [u8]),
-    /// Which keys hold what, from the first of these on and below the second? So many of them, and at most 100.
+    /// Returns the pairs whose keys are at least the first of these and below the second: at most this many, and at
+    /// most 100.
     Scan(&'a [u8], &'a [u8], u32),
 }
 
-/// A request's number of its kind, its key, its other bytes and its amount, as `durkenzo.h` has them.
+/// The number of a request's kind, its key, its other bytes and its amount, as in `durkenzo.h`.
 pub(crate) type RequestParts<'a> = (u8, &'a [u8], &'a [u8], i64);
 
 impl<'a> Request<'a> {
-    /// The bytes whose shard executes the request.
+    /// Returns the bytes that decide which shard executes the request.
     pub fn key(&self) -> &'a [u8] {
         self.parts().1
     }

@@ -7,7 +7,7 @@ pub enum RestartStep {
     Ask,
     /// Approves the restart, within the caps.
     Approve,
-    /// Notes that the server was stopped, once it serves no shard.
+    /// Notes that the server was stopped, if it serves no shard any more.
     Stopped,
     /// Notes that the server is up again, or that its restart is given up.
     Back,
@@ -39,23 +39,23 @@ impl RestartStep {
 // End of them.
 
 impl RestartStep {
-    /// Returns the step of this number from 1 to 5, as `durkenzo.h` has it. Returns `None` for other numbers.
+    /// Returns the step with this number in `durkenzo.h`, from 1 to 5. Returns `None` for other numbers.
     pub fn of_number(number: u8) -> Option<RestartStep> {
         let place = usize::from(number).checked_sub(1)?;
         RestartStep::ALL.get(place).copied()
     }
 
-    /// Returns the step of this word of scripts, in small letters, if there is one.
+    /// Returns the step with this word in scripts, in small letters, if there is one.
     pub fn of_word(word: &str) -> Option<RestartStep> {
         RestartStep::ALL.into_iter().find(|it| it.word() == word)
     }
 
-    /// Returns its number from 1 to 5, as `durkenzo.h` has it.
+    /// Returns its number in `durkenzo.h`, from 1 to 5.
     pub fn number(self) -> u8 {
         self.row().0
     }
 
-    /// Returns its word in scripts, as `approve`.
+    /// Returns its word in scripts, for example `approve`.
     pub fn word(self) -> &'static str {
         self.row().1
     }

@@ -1,13 +1,14 @@
-//! Why a stand isn't reached anew.
+//! Why a stand can't be restored.
 use crate::fault::ChangeFault;
 use std::error::Error;
 use std::fmt;
 
-/// Why a stand isn't reached anew.
+/// Why a stand can't be restored.
 #[derive(Clone, Copy, Debug, PartialEq, Eq)]
 #[non_exhaustive]
 pub enum RestoreFault {
-    /// A change on the way is refused; `WrongPhase` also where no way leads from where the shard stands.
+    /// A change on the way is refused. The reason is `WrongPhase` also if no changes lead from the shard's stand to the
+    /// one asked for.
     Change(ChangeFault),
     /// Memory was refused.
     NoMemory,

@@ -12,11 +12,11 @@ pub struct Route {
     pub generation: u64,
 }
 
-/// The publisher of a map of routes: where clients send requests. Threads may share it: publishing, and making a
-/// [`Router`], takes its lock, and reading by a router takes none.
+/// The publisher of a map of routes, which tells clients where to send requests. Threads may share it. Publishing and
+/// making a [`Router`] take its lock; reading by a router takes no lock.
 ///
-/// Nothing publishes by itself, [`Control::migrate`](crate::Control::migrate) neither. In a migration the new owner is
-/// published between `add_shard` and `drop_shard`, as until the latter the previous owner forwards to it.
+/// Nothing publishes by itself, not even [`Control::migrate`](crate::Control::migrate). In a migration, publish the new
+/// owner between `add_shard` and `drop_shard`, because the previous owner forwards to the new one until `drop_shard`.
 ///
 /// ```
 /// use durkenzo::{Board, Routes};
@@ -36,22 +36,22 @@ pub struct Routes {
     count: usize,
 }
 
-/// Reads a map of routes. Which route it reads of a shard may be old, and never becomes older. It may move to another
-/// thread, never waits, and reads on after the end of its [`Routes`].
+/// Reads a map of routes. A route that it reads may be old, but never older than one that it read before. A router may
+/// move to another thread, never waits, and still reads after its [`Routes`] is dropped.
 #[derive(Debug)]
 pub struct Router {
     handle: Handle,
 }
 
 impl Routes {
-    /// Makes the map of so many shards, 1 to 4,096, of which none has a route.
+    /// Makes a map of this many shards, 1 to 4,096. At first no shard has a route.
     ///
     /// # Errors
     ///
     /// `NoShard` or `TooMany` if there is no such map, or `NoMemory`.
     pub fn new(count: usize) -> Result<Routes, RoutesFault> {
         let mut publisher = Handle::empty();
-        // SAFETY: the handle is this call's alone.
+        // SAFETY: only this call uses the handle.
         match unsafe { raw::durkenzo_publisher(&mut publisher, count) } {
             0 => Ok(Routes {
                 publisher: Mutex::new(publisher),
@@ -61,28 +61,28 @@ impl Routes {
         }
     }
 
-    /// Makes a router of the map, which has seen all that was published.
+    /// Makes a router of the map. The router has seen everything that was published so far.
     ///
     /// # Errors
     ///
-    /// `NoMemory`.
+    /// `NoMemory` if memory for the router is refused.
     pub fn router(&self) -> Result<Router, RoutesFault> {
         let mut handle = Handle::empty();
-        // SAFETY: the publisher's handle is locked, and the other is this call's alone.
+        // SAFETY: the publisher's handle is locked, and only this call uses the other.
         match unsafe { raw::durkenzo_router(&mut *self.publisher(), &mut handle) } {
             0 => Ok(Router { handle }),
             code => Err(RoutesFault::of(code)),
         }
     }
 
-    /// Publishes the shard's owner at its generation, as the pass sees it, whose server may be any. Give it passes of
-    /// one board alone: whether a route is older is told by generations, which are those of a board, and nothing here
-    /// tells boards apart.
+    /// Publishes the shard's owner at its generation, as the pass sees it. The pass may act as any server. All passes
+    /// must be of one board, because routes are compared by generations, which count in one board only. This call can't
+    /// tell boards apart.
     ///
     /// # Errors
     ///
     /// `UnknownShard` if the board or the map has no such shard, `WrongPhase` if nobody owns it, or `OldRoute` if its
-    /// last route is as new. The map is then as it was.
+    /// last route is as new. The map doesn't change then.
     pub fn publish<T>(&self, pass: &mut Pass<T>, shard: u16) -> Result<Route, PublishFault> {
         let mut publisher = self.publisher();
         let record = pass
@@ -102,7 +102,7 @@ impl Routes {
         }
     }
 
-    /// The publisher's handle. Nothing that holds it can panic in the midst of a change, so poison says nothing.
+    /// Returns the publisher's handle. Poison can be ignored, because no holder can panic in the middle of a change.
     fn publisher(&self) -> MutexGuard<'_, Handle> {
         self.publisher
             .lock()
@@ -111,12 +111,12 @@ impl Routes {
 }
 
 impl Router {
-    /// Returns the shard's route, if it has one: the last one of the publications that the router has then seen, which
-    /// begin with all that it had seen before. A shard that the map hasn't has no route.
+    /// Returns the shard's route, if it has one. The route is the last one of the publications that the router has now
+    /// seen, which include all that it had seen before. A shard outside of the map has no route.
     #[inline]
     pub fn route(&mut self, shard: u16) -> Option<Route> {
         let mut parts = RouteParts::default();
-        // SAFETY: the handle is this router's, which is borrowed alone. A shard that is refused leaves the parts 0.
+        // SAFETY: this router is borrowed exclusively and owns the handle. If the shard is refused, the parts stay 0.
         unsafe { raw::durkenzo_route(&mut self.handle, shard, &mut parts) };
         match parts {
             RouteParts { server: 0, .. } => None,

@@ -1,11 +1,11 @@
-//! How an envelope came.
+//! How an envelope travels to another process.
 use crate::limits::{MAX_SERVER, MAX_SHARD, MOST_HOPS};
 use crate::pass::Mode;
 use crate::raw::SentParts;
 use std::error::Error;
 use std::fmt;
 
-/// An envelope but for its request and its note, as plain fields that travel as bytes.
+/// An envelope without its request and its note, as plain fields that can travel as bytes.
 #[derive(Clone, Copy, Debug, PartialEq, Eq)]
 pub struct Sent {
     /// The number that its sender gave it.
@@ -14,29 +14,30 @@ pub struct Sent {
     pub shard: u16,
     /// How it came to the server that serves it next.
     pub mode: Mode,
-    /// How often it was forwarded: 0 where it came directly, else 1 to 4.
+    /// How often it was forwarded: 0 if it came directly, 1 to 4 if it was forwarded.
     pub hops: u8,
 }
 
-/// Why bytes tell no envelope.
+/// Why these bytes are no envelope.
 #[derive(Clone, Copy, Debug, PartialEq, Eq)]
 #[non_exhaustive]
 pub enum SentFault {
-    /// They aren't [`Sent::BYTES`].
+    /// They don't have the length [`Sent::BYTES`].
     Length,
     /// A shard has a number from 0 to 4,095.
     Shard,
     /// A server has a number from 1 to 4,095.
     Server,
-    /// An envelope that came directly has no hop, and one that was forwarded 1 to 4.
+    /// An envelope that came directly has 0 hops, and a forwarded one has 1 to 4.
     Hops,
 }
 
 impl Sent {
-    /// How many bytes [`Sent::to_bytes`] gives.
+    /// The length of the result of [`Sent::to_bytes`].
     pub const BYTES: usize = 13;
 
-    /// The number, the shard, the server that forwarded it or 0, and the hops, each with its highest byte first.
+    /// Returns the number, the shard, the server that forwarded it (0 if none did) and the hops, each with its highest
+    /// byte first.
     pub fn to_bytes(&self) -> [u8; Sent::BYTES] {
         let (parts, mut bytes) = (self.parts(), [0; Sent::BYTES]);
         bytes[..8].copy_from_slice(&parts.number.to_be_bytes());
@@ -46,11 +47,11 @@ impl Sent {
         bytes
     }
 
-    /// What [`Sent::to_bytes`] made the bytes of.
+    /// Returns the fields that [`Sent::to_bytes`] wrote.
     ///
     /// # Errors
     ///
-    /// The first reason why there is no such envelope.
+    /// Returns the first reason why these bytes are no envelope.
     pub fn from_bytes(bytes: &[u8]) -> Result<Sent, SentFault> {
         let bytes: [u8; Sent::BYTES] = bytes.try_into().map_err(|_| SentFault::Length)?;
         let pair = |at: usize| u16::from_be_bytes([bytes[at], bytes[at + 1]]);

@@ -1,4 +1,4 @@
-//! A board of the sample service, whose requests the library executes itself.
+//! A board of the sample service. The library itself executes its requests.
 //!
 //! ```
 //! use durkenzo::{Layout, Reply, Request, Served, Service, Value};
@@ -28,11 +28,11 @@ use crate::settings_fault::SettingsFault;
 use std::fmt;
 use std::sync::Arc;
 
-/// In place of a body, where the library has the bodies itself.
+/// The type of bodies if the library keeps them itself.
 #[derive(Debug)]
 pub enum Texts {}
 
-/// A board of the sample service with the layout of its keys. A clone is another way to the same board.
+/// A board of the sample service, with the layout of its keys. A clone is a handle to the same board.
 #[derive(Clone)]
 pub struct Service {
     shared: Arc<Shared<Texts>>,
@@ -51,41 +51,41 @@ pub struct ServiceBuilder {
 }
 
 impl ServiceBuilder {
-    /// How many requests a shard keeps at most between checkpoints. There is no limit where nothing is said.
+    /// Sets how many requests a shard keeps at most between checkpoints. By default there is no limit.
     pub fn kept(mut self, kept: usize) -> ServiceBuilder {
         self.kept = kept;
         self
     }
 
-    /// Servers 1 to this one, at most 4,095. There is one where nothing is said.
+    /// Sets the number of servers, at most 4,095. They are numbered from 1. The default is 1.
     pub fn servers(mut self, servers: u16) -> ServiceBuilder {
         self.servers = servers;
         self
     }
 
-    /// How many servers may be away for a restart at once. It is one where nothing is said.
+    /// Sets how many servers may be away for a restart at once. The default is 1.
     pub fn restarts(mut self, restarts: u16) -> ServiceBuilder {
         self.restarts = restarts;
         self
     }
 
-    /// The greatest generation of a shard, 3 to 2^36 - 1, which it is where nothing is said.
+    /// Sets the greatest generation of a shard, from 3 to 2^36 - 1. The default is 2^36 - 1.
     pub fn ceiling(mut self, ceiling: u64) -> ServiceBuilder {
         self.ceiling = ceiling;
         self
     }
 
-    /// A board with a shard for each of the layout's. None holds a key, and nobody owns one yet.
+    /// Builds a board with as many shards as the layout has. At first no key holds a value, and nobody owns a shard.
     ///
     /// # Errors
     ///
-    /// `BadServers` and `BadCeiling` by the sizes, or `NoMemory`.
+    /// `BadServers` or `BadCeiling` if a size is wrong, or `NoMemory`.
     pub fn build(self) -> Result<Service, BuildFault> {
         if self.servers == 0 {
             return Err(BuildFault::BadServers);
         }
         let mut chief = Handle::empty();
-        // SAFETY: the handle is this call's alone.
+        // SAFETY: only this call uses the handle.
         let code = unsafe {
             raw::durkenzo_open_service(
                 &mut chief,
@@ -107,7 +107,7 @@ impl ServiceBuilder {
 }
 
 impl Service {
-    /// The sizes of a new board with this layout.
+    /// Returns the sizes of a new board with this layout.
     pub fn builder(layout: Layout) -> ServiceBuilder {
         ServiceBuilder {
             layout,
@@ -118,8 +118,8 @@ impl Service {
         }
     }
 
-    /// A new board as the line of settings says with which a script begins: its layout, servers, groups, domains and
-    /// limits, but for its workers. Nobody owns a shard yet.
+    /// Makes a board from the line of settings that begins a script: it has the line's layout, servers, groups, domains
+    /// and limits, but not its workers. At first nobody owns a shard.
     ///
     /// # Errors
     ///
@@ -127,7 +127,7 @@ impl Service {
     pub fn by_settings(line: impl AsRef<[u8]>) -> Result<Service, SettingsFault> {
         let (mut chief, mut layout, mut count) = (Handle::empty(), Handle::empty(), 0);
         let line = line.as_ref();
-        // SAFETY: the handles are this call's alone, and the slice lasts as long as the call.
+        // SAFETY: only this call uses the handles, and the slice lasts as long as the call.
         let code = unsafe {
             raw::durkenzo_open_settings(
                 &mut chief,
@@ -146,19 +146,19 @@ impl Service {
         }
     }
 
-    /// How keys are given to the board's shards.
+    /// Returns the layout, by which each key belongs to a shard.
     pub fn layout(&self) -> &Layout {
         &self.layout
     }
 
-    /// A new pass, which serves as this server, and makes envelopes.
+    /// Makes a pass, which serves as this server and makes envelopes.
     ///
     /// # Errors
     ///
-    /// `BadServer` where the board has no such server, or `NoMemory`.
+    /// `BadServer` if the board has no such server, or `NoMemory`.
     pub fn pass(&self, server: u16) -> Result<ServicePass, PassFault> {
         let mut handle = Handle::empty();
-        // SAFETY: the control's handle is locked, and the other is this call's alone.
+        // SAFETY: the control's handle is locked, and only this call uses the other.
         match unsafe { raw::durkenzo_pass(&mut *self.shared.chief(), &mut handle, server) } {
             0 => Ok(ServicePass::new(
                 handle,
@@ -169,7 +169,7 @@ impl Service {
         }
     }
 
-    /// The control of this board.
+    /// Returns the control of this board.
     pub fn control(&self) -> Control<Texts> {
         Control::new(self.shared.clone())
     }

@@ -14,28 +14,28 @@ use std::error::Error;
 use std::fmt;
 use std::sync::Arc;
 
-/// What a thread acts on a board of the sample service with, as one server for good.
+/// A thread's access to a board of the sample service. It acts as one server for as long as it lives.
 pub struct ServicePass {
     handle: Handle,
     shared: Arc<Shared<Texts>>,
     layout: Arc<Layout>,
 }
 
-/// What became of an envelope that a server took.
+/// The result of serving an envelope.
 #[derive(Debug)]
 pub enum Served {
     /// The server executed the request.
     Answered(Answer),
-    /// The envelope goes on to this server, with one hop more.
+    /// The envelope must go on to this server. It has one hop more.
     Forward(u16, Envelope),
 }
 
-/// Why a server took no envelope, and the envelope.
+/// An envelope that a server refused, and the reason.
 #[derive(Debug)]
 pub struct ServeRefused {
-    /// Why.
+    /// The reason.
     pub fault: ServeFault,
-    /// The envelope, with a note of all by which it was refused.
+    /// The envelope, with a note of everything that led to the refusal.
     pub envelope: Envelope,
 }
 
@@ -52,24 +52,25 @@ impl ServicePass {
         }
     }
 
-    /// The shard's record, as the pass then sees it.
+    /// Returns the shard's record, as the pass now sees it.
     ///
     /// # Errors
     ///
-    /// Where there is no such shard.
+    /// `UnknownShard` if there is no such shard.
     pub fn look(&mut self, shard: u16) -> Result<Record, UnknownShard> {
-        // SAFETY: the handle is this pass's, which is borrowed alone.
+        // SAFETY: this pass is borrowed exclusively and owns the handle.
         match unsafe { raw::durkenzo_look_word(&mut self.handle, shard) } {
             raw::NO_WORD => Err(UnknownShard),
             word => Ok(Record::of_word(word)),
         }
     }
 
-    /// An envelope with your number for the request's shard, with a note of all that the pass has seen.
+    /// Makes an envelope with your number for the shard of the request's key. It carries a note of all that the pass
+    /// has seen.
     ///
     /// # Errors
     ///
-    /// `EmptyKey` or `KeyTooLong` by the request's key, or `NoMemory`.
+    /// `EmptyKey` or `KeyTooLong` if the request's key has a wrong length, or `NoMemory`.
     pub fn envelope(&mut self, number: u64, request: &Request<'_>) -> Result<Envelope, SendFault> {
         let sent = Sent {
             number,
@@ -80,21 +81,21 @@ impl ServicePass {
         self.received(&sent, request)
     }
 
-    /// The envelope that came so with this request, as [`Envelope::sent`] told another process, with a note of all that
-    /// the pass has seen.
+    /// Makes an envelope from a request that another process forwarded, and from its [`Envelope::sent`]. It carries a
+    /// note of all that the pass has seen.
     ///
     /// # Errors
     ///
-    /// Those of [`ServicePass::envelope`], and `NotSent` where no envelope comes so.
+    /// Those of [`ServicePass::envelope`], and `NotSent` if no envelope has this mode with this many hops.
     pub fn received(&mut self, sent: &Sent, request: &Request<'_>) -> Result<Envelope, SendFault> {
-        // The library would read this server as none.
+        // The library would take server 0 for a request that came directly.
         if sent.mode == Mode::Forwarded(0) {
             return Err(SendFault::NotSent);
         }
         let (kind, key, other, amount) = request.parts();
         let mut handle = Handle::empty();
-        // SAFETY: one handle is this pass's, which is borrowed alone, the other this call's, and the slices last as
-        // long as the call.
+        // SAFETY: this pass is borrowed exclusively and owns one handle, only this call uses the other, and the slices
+        // last as long as the call.
         let code = unsafe {
             raw::durkenzo_envelope(
                 &mut self.handle,
@@ -114,14 +115,14 @@ impl ServicePass {
         }
     }
 
-    /// Has the pass's server serve the envelope: it executes the request, or names the server that the envelope goes
-    /// to.
+    /// Serves the envelope as the pass's server. Either the server executes the request, or the result names the server
+    /// to which the envelope must go on.
     ///
     /// # Errors
     ///
-    /// Why it does neither, with the envelope: `OtherBoard`, `WrongShard`, `TooManyHops`, or why the server isn't
-    /// admitted. Before `KeptFull` and `NoMemory` it was, and its admission ended with nothing: these took 2 of the
-    /// shard's generations.
+    /// Returns the envelope, with the reason: `OtherBoard`, `WrongShard`, `TooManyHops`, or why the server isn't
+    /// admitted. `KeptFull` and `NoMemory` come after the server was admitted. The admission then ended without
+    /// executing anything, and took 2 of the shard's generations.
     pub fn serve(&mut self, mut envelope: Envelope) -> Result<Served, ServeRefused> {
         if !Arc::ptr_eq(&self.shared, &envelope.shared) {
             return Err(ServeRefused {
@@ -131,7 +132,7 @@ impl ServicePass {
         }
         let (mut to, mut read) = (0, RecordParts::default());
         let code = self.layout.with(|layout| {
-            // SAFETY: the layout is locked, the other handles are borrowed alone, and both are of one board.
+            // SAFETY: the layout is locked, this call borrows the other handles exclusively, and both are of one board.
             unsafe {
                 raw::durkenzo_serve(
                     &mut self.handle,
@@ -152,31 +153,32 @@ impl ServicePass {
         }
     }
 
-    /// Tells the pass all that the answer has seen, so that what it asks next comes after the answered request.
+    /// Tells the pass all that the answer has seen. The pass's next calls then come after the answered request.
     ///
     /// # Errors
     ///
-    /// `OtherBoard` for an answer of another board.
+    /// `OtherBoard` if the answer is of another board.
     pub fn hear(&mut self, mut answer: Answer) -> Result<(), NoteFault> {
         if !Arc::ptr_eq(&self.shared, &answer.shared) {
             return Err(NoteFault::OtherBoard);
         }
-        // SAFETY: both handles are borrowed alone, and of one board.
+        // SAFETY: this call borrows both handles exclusively, and they are of one board.
         match unsafe { raw::durkenzo_meet(&mut self.handle, &mut answer.handle) } {
             0 => Ok(()),
             code => Err(NoteFault::of(code)),
         }
     }
 
-    /// Makes the shard's state its base, so that it keeps no request: its generation since then.
+    /// Makes the shard's state its base, so that the shard keeps no requests. Returns the shard's generation after
+    /// that.
     ///
     /// # Errors
     ///
-    /// Why the server isn't admitted, or `NoMemory`, before which it was: its admission ended with nothing, and took 2
-    /// of the shard's generations.
+    /// Returns why the server isn't admitted, or `NoMemory`. `NoMemory` comes after the server was admitted: the
+    /// admission ended without a checkpoint, and took 2 of the shard's generations.
     pub fn checkpoint(&mut self, shard: u16) -> Result<u64, CheckpointFault> {
         let (mut generation, mut read) = (0, RecordParts::default());
-        // SAFETY: the handle is this pass's, which is borrowed alone.
+        // SAFETY: this pass is borrowed exclusively and owns the handle.
         let code = unsafe {
             raw::durkenzo_checkpoint(&mut self.handle, shard, &mut generation, &mut read)
         };
@@ -187,14 +189,14 @@ impl ServicePass {
     }
 }
 
-/// The answer that the envelope has become.
+/// Returns the answer that the served envelope holds.
 fn answer_of(mut envelope: Envelope) -> Answer {
     let (mut parts, mut reply) = (AnswerParts::default(), ReplyParts::default());
-    // SAFETY: the handle is borrowed alone.
+    // SAFETY: this call borrows the handle exclusively.
     let code = unsafe { raw::durkenzo_answer(&mut envelope.handle, &mut parts, &mut reply) };
     assert_eq!(code, 0, "a served envelope keeps its answer");
     let reply = Reply::of(&mut envelope.handle, &reply);
-    // What was made isn't refused any more.
+    // A reply that was made can't be refused any more.
     let reply = reply.unwrap_or_else(|_| handle_alloc_error(alloc::Layout::new::<Reply>()));
     Answer::new(envelope, &parts, reply)
 }

@@ -1,14 +1,14 @@
-//! Why a line of settings opens no board.
+//! Why a line of settings makes no board.
 use std::error::Error;
 use std::fmt;
 
 // By tools/library-codes, the settings of library/codes.txt:
 
-/// Why a line of settings opens no board: the first rule that it breaks.
+/// Why a line of settings can't open a board: the first rule that it breaks.
 #[derive(Clone, Copy, Debug, PartialEq, Eq)]
 #[non_exhaustive]
 pub enum SettingsFault {
-    /// Fencing tokens begin after at most 9,223,371,968,135,299,072.
+    /// Fencing tokens begin after a number of at most 9,223,371,968,135,299,072.
     BadAfter,
     /// The line has more than 1,048,576 bytes.
     TooLong,
@@ -36,9 +36,9 @@ pub enum SettingsFault {
     BadWorkers,
     /// The domains break a rule.
     BadDomains,
-    /// The bodies aren't as many as the line's shards.
+    /// The number of bodies isn't the number of the line's shards.
     BadCount,
-    /// Memory was refused.
+    /// Out of memory.
     NoMemory,
     /// The library answered this code, which this version doesn't know.
     Other(u32),
@@ -70,8 +70,15 @@ impl SettingsFault {
 }
 // End of them.
 
+impl SettingsFault {
+    /// Returns the fault that has this code in the library's other parts, such as the control of a store.
+    pub fn of_code(code: u32) -> SettingsFault {
+        SettingsFault::of(code)
+    }
+}
+
 impl fmt::Display for SettingsFault {
-    /// The fault's name, which is that of scripts where they have it.
+    /// Writes the fault's name. Where scripts have the fault, it is the same name as theirs.
     fn fmt(&self, f: &mut fmt::Formatter<'_>) -> fmt::Result {
         fmt::Debug::fmt(self, f)
     }

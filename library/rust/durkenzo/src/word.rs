@@ -1,4 +1,4 @@
-//! One decision on one record, packed into a word of 64 bits, which a program may keep and exchange itself.
+//! One decision on one record, packed into a word of 64 bits. A program can store such a word and exchange it itself.
 //!
 //! ```
 //! use durkenzo::{word, Stand};
@@ -25,12 +25,12 @@ pub enum WordFault<F> {
     BadWord,
     /// The ceiling of generations is above [`MAX_GENERATION`](crate::MAX_GENERATION).
     BadCeiling,
-    /// The word's record doesn't allow it, or there is no such server.
+    /// The word's record doesn't allow the step, or there is no such server.
     Refused(F),
 }
 
 impl<F> WordFault<F> {
-    // What the code says of the word, whose record refuses as the closure says.
+    // Returns the fault that the code stands for. If the word's record refuses the step, the closure names the refusal.
     fn of(code: u32, word: u64, refused: impl FnOnce(u32, Record) -> F) -> WordFault<F> {
         match (code, record(word)) {
             (5, _) => WordFault::BadCeiling,
@@ -59,28 +59,28 @@ impl<F: Error + 'static> Error for WordFault<F> {
     }
 }
 
-/// The record that has this word, if there is one.
+/// Returns the record that has this word, if there is one.
 pub fn record(word: u64) -> Option<Record> {
     let mut parts = RecordParts::default();
-    // SAFETY: the record is this call's alone.
+    // SAFETY: only this call uses the record.
     match unsafe { raw::durkenzo_unpack(word, &mut parts) } {
         0 => Some(Record::of(&parts)),
         _ => None,
     }
 }
 
-/// The word of the record, if a shard may have such a record.
+/// Returns the word of the record, if a shard can have such a record.
 pub fn of(record: &Record) -> Option<u64> {
     let mut word = 0;
-    // SAFETY: both are this call's alone.
+    // SAFETY: only this call uses both.
     match unsafe { raw::durkenzo_pack(&record.parts(), &mut word) } {
         0 => Some(word),
         _ => None,
     }
 }
 
-/// Whether the shard of this word has the server execute a request that came so; none where no record has the word, or
-/// a server has no number from 1 to 4,095.
+/// Returns whether the server executes a request that came in this mode, on the shard of this word. Returns `None` if
+/// no record has the word, or if a server's number isn't from 1 to 4,095.
 pub fn accepts(word: u64, server: u16, mode: Mode) -> Option<bool> {
     let from = match mode {
         Mode::Direct => 0,
@@ -88,34 +88,36 @@ pub fn accepts(word: u64, server: u16, mode: Mode) -> Option<bool> {
         Mode::Forwarded(server) => server,
     };
     let mut accepted = false;
-    // SAFETY: the answer is this call's alone.
+    // SAFETY: only this call uses the answer.
     match unsafe { raw::durkenzo_accepts(word, server, from, &mut accepted) } {
         0 => Some(accepted),
         _ => None,
     }
 }
 
-/// The word after the change, with a ceiling of generations of at most
+/// Returns the word after the change. The ceiling of generations must be at most
 /// [`MAX_GENERATION`](crate::MAX_GENERATION).
 ///
 /// # Errors
 ///
-/// `BadWord` where no record has the word, `BadCeiling`, or why the record doesn't allow the change.
+/// `BadWord` if no record has the word, `BadCeiling` if the ceiling is too high, or `Refused` with the reason if the
+/// record doesn't allow the change.
 pub fn changed(word: u64, change: Change, ceiling: u64) -> Result<u64, WordFault<ChangeFault>> {
     let ((kind, server), mut next) = (change.parts(), 0);
-    // SAFETY: the number is this call's alone.
+    // SAFETY: only this call uses the number.
     match unsafe { raw::durkenzo_changed(word, kind, server, ceiling, &mut next) } {
         0 => Ok(next),
         code => Err(WordFault::of(code, word, ChangeFault::of)),
     }
 }
 
-/// The word after an admission of the server, for a request that came so, with a ceiling of generations of at most
-/// [`MAX_GENERATION`](crate::MAX_GENERATION).
+/// Returns the word after the server is admitted for a request that came in this mode. The ceiling of generations must
+/// be at most [`MAX_GENERATION`](crate::MAX_GENERATION).
 ///
 /// # Errors
 ///
-/// `BadWord` where no record has the word, `BadCeiling`, or why the record doesn't admit the server.
+/// `BadWord` if no record has the word, `BadCeiling` if the ceiling is too high, or `Refused` with the reason if the
+/// record doesn't admit the server.
 pub fn admitted(
     word: u64,
     server: u16,
@@ -128,35 +130,35 @@ pub fn admitted(
         Mode::Forwarded(server) => server,
     };
     let mut next = 0;
-    // SAFETY: the number is this call's alone.
+    // SAFETY: only this call uses the number.
     match unsafe { raw::durkenzo_admitted(word, server, from, ceiling, &mut next) } {
         0 => Ok(next),
         code => Err(WordFault::of(code, word, AdmitFault::of)),
     }
 }
 
-/// The word after the end of its admission, if it has one that can end.
+/// Returns the word after its admission ends, if it has an admission that can end.
 pub fn ended(word: u64) -> Option<u64> {
     let mut next = 0;
-    // SAFETY: the number is this call's alone.
+    // SAFETY: only this call uses the number.
     match unsafe { raw::durkenzo_ended(word, &mut next) } {
         0 => Some(next),
         _ => None,
     }
 }
 
-/// The server that executes requests on the shard of this word.
+/// Returns the server that executes requests on the shard of this word.
 pub fn executor(word: u64) -> Option<u16> {
-    // SAFETY: the call takes numbers alone.
+    // SAFETY: the call takes only numbers.
     match unsafe { raw::durkenzo_executor(word) } {
         0 => None,
         server => Some(server),
     }
 }
 
-/// The server to which this one forwards requests on the shard of this word.
+/// Returns the server to which this one forwards requests on the shard of this word.
 pub fn forward(word: u64, server: u16) -> Option<u16> {
-    // SAFETY: the call takes numbers alone.
+    // SAFETY: the call takes only numbers.
     match unsafe { raw::durkenzo_forward(word, server) } {
         0 => None,
         server => Some(server),

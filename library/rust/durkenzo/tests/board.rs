@@ -140,7 +140,7 @@ fn maps_of_routes_have_sizes() {
     assert_eq!(late.route(2).map(|it| it.server), Some(1));
 }
 
-/// Reads the shard's route until it has this generation, and none before is older than one that was read.
+/// Reads the shard's route until it has this generation. No route is older than one that was read before.
 fn reads_until(mut router: Router, last: u64) -> Router {
     let mut newest = 0;
     while newest < last {

@@ -1,12 +1,12 @@
-//! A map beside one of the standard library.
+//! Compares the map with one of the standard library.
 use durkenzo::{Board, Held, LentReply, Map, MapFault, Measure, Mode, Reply, Request, Value};
 use std::collections::BTreeMap;
 
-/// A generator of numbers that are the same in each run.
+/// A generator of random numbers that are the same in each run.
 struct Draws(u64);
 
 impl Draws {
-    /// A number below the bound.
+    /// Returns a number below the bound.
     fn below(&mut self, bound: u64) -> u64 {
         self.0 ^= self.0 << 13;
         self.0 ^= self.0 >> 7;
@@ -109,7 +109,7 @@ fn a_scan_gives_pairs_in_order() {
     assert_eq!(map.scan("k", "l", 0), Ok(Vec::new()));
 }
 
-/// The reply of a map of the standard library, and what the request leaves of it.
+/// Returns the reply of a map of the standard library, and makes the request's changes to that map.
 fn expected(map: &mut BTreeMap<Vec<u8>, Value>, request: &Request<'_>) -> Reply {
     let held = map.get(request.key()).cloned();
     match (*request, held) {
@@ -151,7 +151,7 @@ fn expected(map: &mut BTreeMap<Vec<u8>, Value>, request: &Request<'_>) -> Reply 
     }
 }
 
-/// What a key that holds this is told to hold without the bytes of a text.
+/// Returns the measure of this value, which has no bytes of a text.
 fn measure(value: &Value) -> Measure {
     match value {
         Value::Text(text) => Measure::Text(text.len()),
@@ -194,7 +194,7 @@ fn random_requests_beside_the_standard_library() {
     }
 }
 
-/// The memory of this process that is in use, in bytes; nothing where the system doesn't tell.
+/// Returns how many bytes of memory this process uses, if the system tells.
 fn memory() -> Option<usize> {
     let told = std::fs::read_to_string("/proc/self/statm").ok()?;
     Some(told.split(' ').nth(1)?.parse::<usize>().ok()? * 4096)

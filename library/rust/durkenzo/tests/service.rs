@@ -1,4 +1,4 @@
-//! A board of the sample service.
+//! Tests of a board of the sample service.
 use durkenzo::{
     AdmitFault, Board, BuildFault, ChangeFault, CheckpointFault, Envelope, Layout, Mode, Reply,
     Request, RestoreFault, SendFault, Sent, SentFault, ServeFault, Served, Service, ServicePass,
@@ -17,7 +17,7 @@ fn service(bounds: &[&str], servers: u16) -> Service {
     service
 }
 
-/// The reply to the request, which the server executes.
+/// Has the server execute the request, and returns the reply.
 fn executed(pass: &mut ServicePass, request: &Request<'_>) -> Reply {
     let envelope = pass.envelope(0, request).unwrap();
     match pass.serve(envelope) {
@@ -215,7 +215,7 @@ fn eight_threads_and_a_migrating_shard() {
     );
 }
 
-/// How many additions this server executed.
+/// Returns how many additions this server executed.
 fn counted(service: &Service, server: u16, rounds: i64) -> i64 {
     let mut pass = service.pass(server).unwrap();
     let mut done = 0;
@@ -323,7 +323,7 @@ fn stands_are_reached_anew() {
         control.restore(shard, stand).unwrap();
         assert_eq!(watch.look(shard).unwrap().stand, stand);
     }
-    // A board's servers needn't begin at 1.
+    // A board's servers don't have to begin at 1.
     let others = Service::by_settings(SETTINGS.replace("\"id\":1", "\"id\":5")).unwrap();
     others.control().restore(0, Stand::Serving(7)).unwrap();
     assert_eq!(

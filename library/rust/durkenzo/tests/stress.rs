@@ -1,4 +1,5 @@
-//! Eight threads and a control that migrates: admissions are as many as counters in the bodies that would race.
+//! Runs eight threads, and a control that migrates shards. Counters in the bodies would race if two were admitted at
+//! once; at the end they must equal the number of admissions.
 use durkenzo::{Board, ChangeFault, Mode};
 use std::sync::atomic::{AtomicBool, Ordering};
 use std::time::{Duration, Instant};
@@ -6,7 +7,7 @@ use std::time::{Duration, Instant};
 const SHARDS: u16 = 32;
 const SERVERS: u16 = 4;
 const THREADS: u64 = 8;
-/// How long a first migration is waited for.
+/// The test waits this long for the first migration.
 const LATEST: Duration = Duration::from_secs(60);
 
 #[derive(Default)]
