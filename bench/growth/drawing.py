@@ -1,12 +1,13 @@
-"""Draws how throughput and latency grow, as an SVG: for each system and dimension a card, with a plot of requests a
-second above one of the slowest of 100 requests, both on logarithmic scales."""
+"""Draws how throughput and latency grow, as an SVG. Each system has a card for each dimension. A card has a plot of
+requests a second, and below it one of the slowest of 100 requests if the system tells times. Both have logarithmic
+scales."""
 import html
 import math
 
 WIDTH, COLUMNS, GAP, TOP = 1020, 3, 14, 74
 CARD, HEIGHT = (WIDTH - (COLUMNS + 1) * GAP) // COLUMNS, 284
 LEFT, RIGHT = 50, 14
-# Where the two plots of a card begin, and how high each is.
+# The top of each of the two plots of a card, and its height.
 PLOTS = ((46, 104), (178, 66))
 TITLES = ("requests a second", "slowest of 100")
 STYLE = """
@@ -24,7 +25,7 @@ TIMES = ((1e9, "s"), (1e6, "ms"), (1e3, "us"), (1, "ns"))
 
 
 def count(number):
-    """A number as 20, 4,096, 20k or 3M."""
+    """Returns a number as 20, 4,096, 20k or 3M."""
     if 1000 <= number < 100_000 and number % 1000:
         return f"{number:,}"
     for size, letter in UNITS:
@@ -39,7 +40,7 @@ def duration(nanoseconds):
 
 
 def ticks(low, high):
-    """Round numbers of a logarithmic scale from low to high, at most five."""
+    """Returns round numbers of a logarithmic scale from low to high, at most five of them."""
     for steps in ((1, 2, 5), (1, 3), (1,)):
         powers = range(math.floor(math.log10(low)), math.ceil(math.log10(high)) + 1)
         found = [step * 10**power for power in powers for step in steps if low <= step * 10**power <= high]
@@ -76,7 +77,7 @@ def mark(x, y, side):
 
 
 def places(row_count):
-    """Where the values stand from left to right."""
+    """Returns the places of this many values, from left to right."""
     room = CARD - LEFT - RIGHT
     return [LEFT + room * (at + 0.5) / row_count for at in range(row_count)]
 
@@ -91,7 +92,7 @@ def curve(xs, scale, middles, ranges, side):
 
 
 def plot(rows, what, place, shown):
-    """A plot of what each row has of both sides: their middles and quartiles."""
+    """Draws a plot of one figure of both sides in each row: the medians and quartiles."""
     sides = {side: [getattr(it, side)[what] for it in rows] for side in ("locks", "ours")}
     values = [value for side in sides.values() for three in side for value in three if value > 0]
     scale, xs = Scale(values, *place), places(len(rows))
@@ -123,7 +124,8 @@ def legend():
 
 
 def picture(cards, told):
-    """The whole picture: cards by their names, each with its rows; told: when and where it was measured."""
+    """Returns the whole picture of these cards, which have names and rows. `told` must say on which machine it was
+    measured, and when."""
     height = TOP + math.ceil(len(cards) / COLUMNS) * (HEIGHT + GAP)
     size = f'width="{WIDTH}" height="{height}" viewBox="0 0 {WIDTH} {height}"'
     parts = [f'<svg xmlns="http://www.w3.org/2000/svg" {size}><style>{STYLE}</style>']

@@ -1,15 +1,14 @@
-//! Times calls of so many clients, each on a thread, one after another, and prints how many there were a second and how
-//! long they took:
+//! Times the calls of several clients, and prints how many calls there were a second and how long they took. Each
+//! client runs on a thread of its own, and makes one call after another:
 //!
 //! ```text
-//! bench-etcd txn ENDPOINT,.. CLIENTS SECONDS              a transaction of etcd that compares a key and puts it
-//! bench-etcd set|get ADDRESS,.. CLIENTS SECONDS SHARDS    a SET or GET of a server, of keys of so many shards
-//! bench-etcd set-owner|get-owner ADDRESS,.. CLIENTS SECONDS SHARDS
-//!                                                         the same of the server that owns the key's shard
+//! bench-etcd txn ENDPOINT,.. CLIENTS SECONDS                 an etcd transaction that compares a key and puts it
+//! bench-etcd set|get ADDRESS,.. CLIENTS SECONDS [SHARDS]     a SET or a GET at any server, for keys of SHARDS shards
+//! bench-etcd set-owner|get-owner ADDRESS,.. CLIENTS SECONDS  a SET or a GET at the server that owns the key's shard
 //! ```
 //!
-//! Each client has keys of its own, and texts of 32 bytes. What calls need is made first: then it says `ready`, and the
-//! time begins once it reads a line. A call that is refused ends the run with exit status 1.
+//! Each client has 16 keys of its own, and writes texts of 32 bytes. First all clients write their keys. Then the
+//! program prints `ready`, and the time begins when it reads a line. If a timed call is refused, the exit status is 1.
 mod redis;
 mod timed;
 mod transactions;
@@ -24,19 +23,20 @@ use std::time::{Duration, Instant};
 use timed::Timed;
 use transactions::Transactions;
 
-/// How many keys each client has.
+/// The number of keys of each client.
 const KEYS: u64 = 16;
 
-/// What a client does over and over.
+/// The work that a client does over and over.
 trait Workload: Send {
-    /// Makes what its calls need, which write or read.
+    /// Writes the client's keys. Must be called before the first timed call. The calls after it write if `writes` is
+    /// true, and read otherwise.
     fn prepare(&mut self, writes: bool) -> Result<(), String>;
 
-    /// Makes its call of this number.
+    /// Makes the call of this number.
     fn call(&mut self, number: u64) -> Result<(), String>;
 }
 
-/// The callers of a kind at these addresses, so many.
+/// Returns `count` clients that make calls of this kind at these addresses.
 fn callers(
     kind: &str,
     addresses: &str,
@@ -57,7 +57,8 @@ fn callers(
     (0..count).map(connect).collect()
 }
 
-/// What one caller did in this time, once all are prepared and may begin.
+/// Makes one client's calls until the time is over, and returns how long each took. The time begins when all clients
+/// are prepared and may begin.
 fn work(
     mut caller: Box<dyn Workload>,
     writes: bool,
@@ -66,8 +67,9 @@ fn work(
 ) -> Result<Timed, String> {
     let prepared = caller.prepare(writes);
     all.wait();
-    prepared?;
     all.wait();
+    // Others wait for this client, also if it isn't prepared.
+    prepared?;
     let (mut timed, end) = (Timed::default(), Instant::now() + time);
     for number in 0.. {
         let began = Instant::now();

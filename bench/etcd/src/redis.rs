@@ -3,20 +3,20 @@ use std::io::{BufRead, BufReader, Read, Write};
 use std::net::TcpStream;
 use std::time::Duration;
 
-/// How long an answer is waited for.
+/// How long a connection waits for the next bytes of an answer.
 const PATIENCE: Duration = Duration::from_secs(30);
 
-/// A client of servers.
+/// A client that sends SET and GET to servers of a cluster.
 pub(crate) struct Redis {
     streams: Vec<RedisConnection>,
-    /// For each shard, which of the streams is asked.
+    /// The place in `streams` of the connection to ask, for each shard.
     routes: Vec<usize>,
     writes: bool,
     name: u64,
 }
 
 impl Redis {
-    /// One with a name of its own, which asks this server for keys of so many shards.
+    /// Returns a client of this name that sends all requests to this server. Its keys are spread over this many shards.
     pub(crate) fn of_one(address: &str, shards: usize, name: u64) -> Result<Redis, String> {
         Ok(Redis {
             streams: vec![RedisConnection::connect(address)?],
@@ -26,7 +26,8 @@ impl Redis {
         })
     }
 
-    /// One that asks for each key the server that owns its shard, as this one tells.
+    /// Returns a client of this name that sends each request to the owner of the key's shard. It asks the server at
+    /// this address for the owners.
     pub(crate) fn of_owners(address: &str, name: u64) -> Result<Redis, String> {
         let (mut streams, mut routes) = (Vec::new(), Vec::new());
         let mut known: Vec<String> = Vec::new();
@@ -48,7 +49,7 @@ impl Redis {
 }
 
 impl Workload for Redis {
-    /// Writes all of its keys.
+    /// Writes all keys of the client.
     fn prepare(&mut self, writes: bool) -> Result<(), String> {
         (0..KEYS).try_for_each(|it| self.call(it))?;
         self.writes = writes;
@@ -73,7 +74,7 @@ impl Workload for Redis {
     }
 }
 
-/// A connection to a server.
+/// A connection to one server.
 struct RedisConnection {
     stream: BufReader<TcpStream>,
     line: String,
@@ -92,7 +93,7 @@ impl RedisConnection {
         })
     }
 
-    /// The first line of the answer.
+    /// Sends these bytes, and returns the first line of the answer.
     fn ask(&mut self, asked: &str) -> Result<&str, String> {
         let sent = self.stream.get_mut().write_all(asked.as_bytes());
         sent.map_err(|error| error.to_string())?;
@@ -106,13 +107,13 @@ impl RedisConnection {
         Ok(self.line.trim_end())
     }
 
-    /// Goes behind the text whose length was just read.
+    /// Reads past the text of 32 bytes whose length was just read, and past the end of its line.
     fn skip_text(&mut self) -> Result<(), String> {
         let read = self.stream.read_exact(&mut [0; 34]);
         read.map_err(|error| error.to_string())
     }
 
-    /// Where clients reach the owner of each shard.
+    /// Returns the address of each shard's owner.
     fn owners(&mut self) -> Result<Vec<String>, String> {
         let told = self.ask("*2\r\n$2\r\nSM\r\n$6\r\nROUTES\r\n")?;
         let count = told.strip_prefix('*').and_then(|it| it.parse().ok());
@@ -124,7 +125,7 @@ impl RedisConnection {
                 continue;
             }
             left -= 1;
-            // The first one tells a revision.
+            // The first line has no third word, because it tells a revision.
             owners.extend(line.split(' ').nth(2).map(str::to_owned));
         }
         Ok(owners)

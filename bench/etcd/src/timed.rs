@@ -1,6 +1,6 @@
 use std::time::Duration;
 
-/// How long calls took.
+/// How long each call took.
 #[derive(Default)]
 pub(crate) struct Timed {
     microseconds: Vec<u32>,
@@ -16,7 +16,8 @@ impl Timed {
         self.microseconds.extend(other.microseconds);
     }
 
-    /// The calls, those a second, and the microseconds of the middle one and of the hundredth slowest.
+    /// Returns four numbers: the calls, the calls a second, and the median and the 99th percentile of their times in
+    /// microseconds.
     pub(crate) fn told(mut self, seconds: u64) -> String {
         self.microseconds.sort_unstable();
         let count = self.microseconds.len();

@@ -2,7 +2,8 @@ use crate::{Workload, KEYS};
 use durkenzo_store::{Access, Etcd, Outcome, Revision, Store, Transaction};
 use std::sync::Arc;
 
-/// A client of etcd that compares its key's revision and puts it, by each member in turn, as servers have one each.
+/// A client of etcd. Each of its transactions compares a key's revision and puts the key. It sends them to each member
+/// in turn, because the servers of a cluster are spread over the members too.
 pub(crate) struct Transactions {
     members: Vec<Arc<Etcd>>,
     name: u64,
@@ -10,7 +11,7 @@ pub(crate) struct Transactions {
 }
 
 impl Transactions {
-    /// So many, which share a connection of their own to each member.
+    /// Returns `count` clients. They share one `Etcd` for each member, which tries that member first.
     pub(crate) fn several(
         endpoints: &[&str],
         count: u64,
@@ -35,14 +36,14 @@ impl Transactions {
 }
 
 impl Workload for Transactions {
-    /// Writes all of its keys.
+    /// Writes all keys of the client.
     fn prepare(&mut self, _writes: bool) -> Result<(), String> {
         (0..KEYS).try_for_each(|it| self.call(it))
     }
 
     fn call(&mut self, number: u64) -> Result<(), String> {
         let at = (number % KEYS) as usize;
-        // Another run has written other keys.
+        // The key has the number of this process, because an earlier run may have written the other parts of it.
         let key = format!("bench/{}/{:05}/{at:02}", std::process::id(), self.name);
         let transaction = Transaction::new()
             .compare(key.as_str(), self.revisions[at])

@@ -1,4 +1,5 @@
-//! A server of frames that does nothing but count: each connection has a thread, and each shard's counts a lock.
+//! A bare server of frames, which only counts how often it got each request. Each connection has a thread, and the
+//! counts of each shard have a lock.
 use std::collections::HashMap;
 use std::io::{self, BufReader, Read, Write};
 use std::net::{TcpListener, TcpStream};
@@ -9,7 +10,7 @@ const SHARDS: usize = 24;
 
 type Counts = [Mutex<HashMap<Vec<u8>, u64>>; SHARDS];
 
-/// Prints where it listens, and serves until it is killed.
+/// Prints the address at which it listens, and serves until it is killed.
 pub(crate) fn serve() -> io::Result<String> {
     let socket = TcpListener::bind("127.0.0.1:0")?;
     println!("{}", socket.local_addr()?);

@@ -6,7 +6,7 @@ use std::sync::atomic::{AtomicBool, Ordering};
 use std::sync::Arc;
 use std::time::Duration;
 
-/// A store whose changes aren't told any more once it is frozen: maps of it grow old.
+/// A store that tells its watchers no more changes once it is frozen. A router's map of it then grows old.
 pub(crate) struct Frozen {
     store: Etcd,
     is_frozen: Arc<AtomicBool>,

@@ -1,16 +1,18 @@
-//! Times calls of so many clients, each on a thread, one after another, and prints what they saw (`Timed::told`):
+//! Times the calls of several clients, and prints their figures (`Timed::told`). Each client runs on a thread of its
+//! own, and makes one call after another:
 //!
 //! ```text
-//! bench-fleet bare                                  a bare server of frames, which prints its address
-//! bench-fleet frames ADDRESS CLIENTS SECONDS        calls of that one
-//! bench-fleet calls ETCD CLIENTS SECONDS [RATE]     calls of a fleet of pages, or so many a second
-//! bench-fleet hops ETCD CLIENTS SECONDS             the same by a map from before each shard moved
-//! bench-fleet ready ETCD                            waits until each shard is answered
-//! bench-fleet fill ETCD PAGES                       has so many pages be in the first shard
+//! bench-fleet bare                                  runs a bare server of frames, and prints its address
+//! bench-fleet frames ADDRESS,.. CLIENTS SECONDS     calls these bare servers, each in turn
+//! bench-fleet calls ETCD CLIENTS SECONDS [RATE]     calls a fleet of pages, at RATE calls a second if it is given
+//! bench-fleet hops ETCD CLIENTS SECONDS             calls a fleet of pages by a map from before each shard moved
+//! bench-fleet ready ETCD                            waits until each shard answers
+//! bench-fleet fill ETCD PAGES                       fills the first shard with this many pages
 //! bench-fleet command ETCD WORD ..                  gives the control a command, and prints its answer
 //! ```
 //!
-//! What calls need is made first: then it says `ready`, and the time begins once it reads a line.
+//! First the program makes everything that the timed calls need. Then it prints `ready`, and the time begins when it
+//! reads a line.
 mod bare;
 mod frozen;
 mod timed;
@@ -32,11 +34,12 @@ use workload::{Calls, Frames, Workload};
 type Told = Result<String, Box<dyn Error + Send + Sync>>;
 type Callers = Vec<Box<dyn Workload>>;
 
-/// How long is waited for what isn't timed.
+/// How long a call or a command may take if it isn't timed.
 const PATIENCE: Duration = Duration::from_secs(300);
 
-/// What one client saw in this time, once all are ready. If there is a pace, its calls begin at that pace: one that is
-/// late is counted from when it should have begun.
+/// Makes one client's calls until the time is over, and returns their times. The time begins when all clients are
+/// ready. If there is a pace, one call is due after each such time. Then a call is timed from the moment at which it
+/// was due, because it may begin late.
 fn work(
     mut caller: Box<dyn Workload>,
     all: &Barrier,
@@ -63,7 +66,8 @@ fn work(
     timed
 }
 
-/// Times these clients once a line is read.
+/// Times these clients, and returns their figures. The time begins when a line is read. If there is a rate, the clients
+/// together make this many calls a second.
 fn timed(callers: Callers, seconds: u64, rate: Option<u32>) -> Told {
     let (time, count) = (Duration::from_secs(seconds), callers.len() as u32);
     let pace = rate.map(|it| Duration::from_secs(1) * count / it);
@@ -87,7 +91,7 @@ fn etcd(endpoints: &str) -> Result<Etcd, Box<dyn Error + Send + Sync>> {
     Ok(Etcd::new(Access::new(endpoints.split(',')))?)
 }
 
-/// A router that knows each shard's owner.
+/// Returns a router by which each shard has answered, so that it knows each owner.
 fn ready(store: &dyn Store) -> Result<Arc<Router>, Box<dyn Error + Send + Sync>> {
     let router = Router::watch(store)?;
     for shard in Calls::keys_of_shards(&router) {
@@ -96,14 +100,14 @@ fn ready(store: &dyn Store) -> Result<Arc<Router>, Box<dyn Error + Send + Sync>>
     Ok(Arc::new(router))
 }
 
-/// So many clients that call by one router.
+/// Returns `count` clients that call by one router.
 fn callers(store: &dyn Store, count: u64) -> Result<Callers, Box<dyn Error + Send + Sync>> {
     let router = ready(store)?;
     let made = |it| -> Box<dyn Workload> { Box::new(Calls::new(router.clone(), it)) };
     Ok((0..count).map(made).collect())
 }
 
-/// Has each shard go to another server, without the map of the callers.
+/// Moves each shard to the next server. The router must not be that of the callers, because their map must stay old.
 fn moved(router: &Router) -> Result<(), String> {
     let rows = router.command(&["SHARDS"], PATIENCE)?;
     let servers = router.command(&["SERVERS"], PATIENCE)?.len() as u16 - 1;
@@ -121,14 +125,14 @@ fn moved(router: &Router) -> Result<(), String> {
     Ok(())
 }
 
-fn frames(address: &str, clients: u64, seconds: u64) -> Told {
-    let connect = |it| Frames::connect(address, it).map(|it| Box::new(it) as Box<dyn Workload>);
+fn frames(addresses: &str, clients: u64, seconds: u64) -> Told {
+    let connect = |it| Frames::connect(addresses, it).map(|it| Box::new(it) as Box<dyn Workload>);
     let callers: Result<_, _> = (0..clients).map(connect).collect();
     timed(callers?, seconds, None)
 }
 
 fn calls(endpoints: &str, clients: u64, seconds: u64, rate: Option<u32>) -> Told {
-    // The store tells of changes as long as it is there.
+    // The store must stay until the calls end, because it tells the router of changes only until then.
     let store = etcd(endpoints)?;
     timed(callers(&store, clients)?, seconds, rate)
 }
@@ -141,7 +145,7 @@ fn hops(endpoints: &str, clients: u64, seconds: u64) -> Told {
     timed(callers, seconds, None)
 }
 
-/// Has so many pages be in the first shard, some at a time.
+/// Fills the first shard until it has this many pages. Each call adds at most 4,096 of them.
 fn fill(endpoints: &str, most: u64) -> Told {
     let store = etcd(endpoints)?;
     let router = ready(&store)?;

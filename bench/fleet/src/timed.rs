@@ -1,7 +1,7 @@
 use durkenzo_fleet::CallError;
 use std::time::Instant;
 
-/// How long calls took, and how many weren't answered.
+/// How long the answered calls took, and how many calls weren't answered.
 #[derive(Default)]
 pub(crate) struct Timed {
     microseconds: Vec<u32>,
@@ -10,7 +10,8 @@ pub(crate) struct Timed {
 }
 
 impl Timed {
-    /// Notes a call that was to begin then, and has ended now.
+    /// Adds a call that was due at `since` and has ended now. If it was answered, its time is kept. If not, it is only
+    /// counted.
     pub(crate) fn add(&mut self, since: Instant, answered: Result<(), CallError>) {
         match answered {
             Ok(()) => {
@@ -29,8 +30,9 @@ impl Timed {
         self.not_made += other.not_made;
     }
 
-    /// The calls that were answered, those a second, the microseconds of the middle one, the hundredth slowest and the
-    /// longest, and the calls that may have been made, and that weren't.
+    /// Returns seven numbers. The first five are of the calls that were answered: their number, the number a second,
+    /// and the median, the 99th percentile and the longest of their times in microseconds. The other two are the number
+    /// of calls that may have been made, and the number of calls that weren't made.
     pub(crate) fn told(mut self, seconds: u64) -> String {
         self.microseconds.sort_unstable();
         let (count, last) = (self.microseconds.len(), self.microseconds.last().copied());

@@ -1,5 +1,5 @@
-//! Counts on the library's board. A worker has a pass of each server, and asks the one that it last knew to own a
-//! shard.
+//! Counts on the library's board. A worker has a pass of each server. It begins with the server that owned the shard
+//! when it last asked.
 use crate::shard_store::{KeyRequest, ShardStore, ShardWorker};
 use durkenzo::{AdmitFault, Board, Mode, Pass};
 use std::thread;
@@ -56,7 +56,7 @@ impl ShardWorker for BoardWorker {
                     };
                     self.owners[asked.shard] = server;
                 }
-                // As `Pass::with` waits.
+                // Waits as `Pass::with` does.
                 Err(fault) if fault.is_passing() => thread::yield_now(),
                 Err(fault) => panic!("{fault}"),
             }

@@ -1,4 +1,4 @@
-//! A client of a server for Redis clients: it sends commands, and reads what they are answered.
+//! A client of a server for Redis clients. It sends commands, and reads their answers.
 use std::io::{BufRead, BufReader, Read, Write};
 use std::net::TcpStream;
 
@@ -8,7 +8,7 @@ pub struct RedisClient {
     text: Vec<u8>,
 }
 
-/// The bytes of a command.
+/// Returns the bytes of a command.
 pub fn command(words: &[&[u8]]) -> Vec<u8> {
     let mut bytes = format!("*{}\r\n", words.len()).into_bytes();
     for word in words {
@@ -37,7 +37,8 @@ impl RedisClient {
             .expect("a server that reads");
     }
 
-    /// Reads an answer: a number, the length of a text, or 0 for one of words; or the error.
+    /// Reads an answer. Returns the number or the length of the text, or 0 if it is a line such as `+OK`. If it is an
+    /// error, returns its line.
     pub fn told(&mut self) -> Result<i64, String> {
         self.line.clear();
         let read = self.reader.read_line(&mut self.line);
@@ -58,12 +59,12 @@ impl RedisClient {
         }
     }
 
-    /// Reads an answer that is no error.
+    /// Reads an answer, which must not be an error.
     pub fn answer(&mut self) -> i64 {
         self.told().expect("a server that refuses nothing")
     }
 
-    /// Has the shard move to this server; or tells why not.
+    /// Moves the shard to this server. If that is refused, returns the line of the error.
     pub fn migrate(&mut self, shard: usize, to: u16) -> Result<i64, String> {
         let (shard, to) = (shard.to_string(), to.to_string());
         self.send(&command(&[

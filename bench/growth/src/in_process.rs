@@ -1,4 +1,4 @@
-//! Rounds of two ways in one process, in turn.
+//! Runs rounds of two ways in one process, in turn.
 use crate::request_choice::RequestChoice;
 use crate::round::{self, TimedRound};
 use crate::round_result::{RoundResult, MOST_TIMES};
@@ -7,10 +7,10 @@ use crate::sizes::Sizes;
 use std::hint::black_box;
 use std::time::Instant;
 
-/// One request of so many is timed by itself, so that most of them pay for no clock.
+/// One request of this many is timed by itself. The others aren't, because reading the clock takes time too.
 const TIMED: u64 = 32;
 
-/// Writes each key once.
+/// Writes each key once, and returns the way.
 pub fn filled<W: ShardStore>(way: W, sizes: &Sizes) -> W {
     {
         let mut worker = way.worker();
@@ -26,7 +26,7 @@ pub fn filled<W: ShardStore>(way: W, sizes: &Sizes) -> W {
     way
 }
 
-/// Has both ways make requests in turn; the one that begins changes with each round.
+/// Runs the rounds of both ways in turn, and prints a line of each. The way that begins changes with each round.
 pub fn beside<A: ShardStore, B: ShardStore>(ours: &A, locks: &B, sizes: &Sizes) {
     for number in 0..sizes.rounds {
         for turn in [number % 2, 1 - number % 2] {
@@ -47,7 +47,7 @@ fn run<W: ShardStore>(way: &W, sizes: &Sizes) -> RoundResult {
     )
 }
 
-/// A thread's requests until the end: how many, and the times of some.
+/// Makes requests on one thread until the round is over. Returns how many it made, and the times of some.
 fn work<W: ShardStore>(
     way: &W,
     sizes: &Sizes,
@@ -71,7 +71,7 @@ fn work<W: ShardStore>(
     (made, times)
 }
 
-/// Moves shards at random until the end, and returns how often.
+/// Moves shards at random until the round is over, and returns how many it moved.
 fn migrate<W: ShardStore>(way: &W, sizes: &Sizes, round: &TimedRound) -> u64 {
     let (mut choice, mut owners) = (
         RequestChoice::new(sizes, sizes.threads),
@@ -83,7 +83,7 @@ fn migrate<W: ShardStore>(way: &W, sizes: &Sizes, round: &TimedRound) -> u64 {
         owners[shard] = 3 - owners[shard];
         way.migrate(shard, owners[shard]);
     });
-    // Each round begins where the first did.
+    // Each round must begin with the owners of the first one.
     for shard in (0..sizes.shards).filter(|it| owners[*it] != 1) {
         way.migrate(shard, 1);
     }

@@ -1,4 +1,4 @@
-//! The keys of a shard: 16 bytes, of which the first two are the shard's number.
+//! The keys of a shard. Each key has 16 bytes: the first two are the shard's number, and the last four are the key's.
 
 pub fn key_of(shard: usize, number: u32) -> [u8; 16] {
     let mut key = *b"..shard's key...";
@@ -7,7 +7,7 @@ pub fn key_of(shard: usize, number: u32) -> [u8; 16] {
     key
 }
 
-/// The bound at which the shard's keys begin.
+/// Returns the bound at which the shard's keys begin.
 pub fn bound_of(shard: usize) -> Vec<u8> {
     match shard {
         0 => Vec::new(),

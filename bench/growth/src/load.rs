@@ -1,5 +1,5 @@
-//! Clients of a server, each a thread with a connection, of which one request is under way at a time: half of them get
-//! a text; the others add to a count, or put a text where texts have another size than usual.
+//! Clients of a server. Each client is a thread with one connection, and has one request under way at a time. Half of
+//! the requests get a text. The other half add to a count if texts have the usual size, and otherwise put a text.
 use crate::client::{command, RedisClient};
 use crate::request_choice::RequestChoice;
 use crate::round::{self, TimedRound};
@@ -8,16 +8,16 @@ use crate::shard_store::KeyRequest;
 use crate::sizes::Sizes;
 use std::time::Instant;
 
-/// The size of texts at which requests that write are additions.
+/// If texts have this size, the requests that write add to a count.
 const USUAL: usize = 32;
-/// How many bytes of commands are sent before their answers are read.
+/// How many bytes of commands are sent at once, before their answers are read.
 const ROOM: u64 = 1 << 16;
 
 fn name_of(kind: &str, number: u64) -> Vec<u8> {
     format!("{kind}:{number:010}").into_bytes()
 }
 
-/// Writes each text once, which is in the server then.
+/// Writes each text once, because the requests that read must find them all.
 fn fill(sizes: &Sizes, text: &[u8]) {
     let mut client = RedisClient::new(sizes.port);
     let all = sizes.shards as u64 * u64::from(sizes.keys);
@@ -41,7 +41,7 @@ fn request(asked: KeyRequest, sizes: &Sizes, text: &[u8]) -> Vec<u8> {
     }
 }
 
-/// The requests of a client until the end: how many, and the times of the first.
+/// Makes one client's requests until the round is over. Returns how many it made, and the times of the first ones.
 fn call(sizes: &Sizes, client: usize, text: &[u8], round: &TimedRound) -> (u64, Vec<u64>) {
     let (mut connection, mut choice) = (
         RedisClient::new(sizes.port),
@@ -62,10 +62,10 @@ fn call(sizes: &Sizes, client: usize, text: &[u8], round: &TimedRound) -> (u64, 
     (made, times)
 }
 
-/// Moves shards in turn between servers 1 and 2 until the end, and returns how often.
+/// Moves the shards in turn between servers 1 and 2 until the round is over, and returns how often it moved one.
 fn migrate(sizes: &Sizes, round: &TimedRound) -> u64 {
     let mut client = RedisClient::new(sizes.port);
-    // Some are at server 1 already, which is refused.
+    // If a shard is at server 1 already, the move is refused.
     for shard in 0..sizes.shards {
         let _ = client.migrate(shard, 1);
     }

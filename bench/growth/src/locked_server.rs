@@ -1,5 +1,6 @@
-//! A server for Redis clients as one writes it with locks: a thread for each connection, and a lock for each shard
-//! round its owner and a `BTreeMap`. It knows GET, SET, INCR and SM MIGRATE, and ends with its standard input.
+//! A server for Redis clients, as one writes it with locks. Each connection has a thread, and each shard has a lock
+//! round its owner and a `BTreeMap`. The server knows GET, SET, INCR and SM MIGRATE. It ends when its standard input
+//! ends.
 use crate::sizes::Sizes;
 use std::collections::BTreeMap;
 use std::io::{self, BufRead, BufReader, Read, Write};
@@ -14,7 +15,7 @@ struct OwnedTexts {
 
 type ServedShards = Vec<Mutex<OwnedTexts>>;
 
-/// The words of the next command, or none at the end.
+/// Returns the words of the next command, or none if the connection has ended.
 fn read(reader: &mut BufReader<TcpStream>, line: &mut String) -> io::Result<Option<Vec<Vec<u8>>>> {
     let Some(count) = head(reader, line)? else {
         return Ok(None);
@@ -32,14 +33,14 @@ fn read(reader: &mut BufReader<TcpStream>, line: &mut String) -> io::Result<Opti
     Ok(Some(words))
 }
 
-/// The number of a line as `*3` or `$5`.
+/// Reads a line such as `*3` or `$5`, and returns its number.
 fn head(reader: &mut BufReader<TcpStream>, line: &mut String) -> io::Result<Option<usize>> {
     line.clear();
     reader.read_line(line)?;
     Ok(line.get(1..).and_then(|it| it.trim_end().parse().ok()))
 }
 
-/// The shard of a key, by FNV-1a.
+/// Returns the shard of a key, by FNV-1a.
 fn shard_of(key: &[u8], count: usize) -> usize {
     let hash = key.iter().fold(0xcbf2_9ce4_8422_2325_u64, |hash, byte| {
         (hash ^ u64::from(*byte)).wrapping_mul(0x100_0000_01b3)
@@ -92,7 +93,7 @@ fn answer(shards: &ServedShards, words: Vec<Vec<u8>>, out: &mut Vec<u8>) {
     }
 }
 
-/// Answers what a connection asks; what came together is answered together.
+/// Answers the requests of a connection. If requests came together, their answers are sent together.
 fn attend(shards: &ServedShards, stream: TcpStream) -> io::Result<()> {
     stream.set_nodelay(true)?;
     let (mut reader, mut line, mut out) = (
@@ -124,6 +125,6 @@ pub fn run(sizes: &Sizes) {
             thread::spawn(move || _ = attend(&shards, stream));
         }
     });
-    // A read that ends is the end of who started this.
+    // The read ends when the process that started this one ends.
     let _ = io::stdin().read_to_end(&mut Vec::new());
 }

@@ -1,12 +1,12 @@
-//! A lock for each shard in Rust, round its owner and its body, a count or a `BTreeMap`. A worker that meets another
-//! owner than it last knew learns it there; a migration is one step under the lock.
+//! A lock for each shard in Rust, round the shard's owner and its body. The body is a count or a `BTreeMap`. If a
+//! worker finds another owner than it knew, it notes that owner. A migration is one step under the lock.
 use crate::keys::{bound_of, key_of};
 use crate::shard_store::{KeyRequest, ShardStore, ShardWorker};
 use crate::sizes::Sizes;
 use std::collections::BTreeMap;
 use std::sync::{Mutex, MutexGuard};
 
-/// What is behind a lock.
+/// The value behind a lock.
 pub struct OwnedBody<B> {
     owner: u16,
     body: B,
@@ -22,7 +22,7 @@ fn shards_of<B: Default>(count: usize) -> Shards<B> {
     (0..count).map(|_| Mutex::new(held())).collect()
 }
 
-/// The shard, held, once it is known who owns it.
+/// Locks the shard, and notes its owner if another one was known. Returns the locked shard.
 fn locked<'a, B>(
     shards: &'a Shards<B>,
     owners: &mut [u16],
@@ -96,7 +96,7 @@ impl ShardStore for LockedTexts {
 }
 
 impl ShardWorker for (&LockedTexts, Vec<u16>) {
-    /// The request is made with memory of its own, and its shard is found by the key, as in the library.
+    /// Makes the request with memory of its own, and finds its shard by the key, because the library does so too.
     fn request(&mut self, asked: KeyRequest) -> u64 {
         let (texts, key) = (self.0, key_of(asked.shard, asked.key).to_vec());
         let text = asked.is_write.then(|| texts.text.clone());

@@ -1,7 +1,11 @@
-//! Times boards and the sample service of the library beside locks in Rust, and servers for Redis clients, at sizes
-//! that the words say: `growth board|serve NAME=NUMBER ..` has both ways make requests in turn, round by round, and
-//! prints a line of each; `growth load port=PORT ..` makes requests to a server, and prints one line; `growth locks
-//! port=PORT ..` is a server whose shards are behind locks.
+//! Times boards and the sample service of the library beside locks in Rust, and servers for Redis clients. Its words
+//! say the sizes:
+//!
+//! ```text
+//! bench-growth board|serve NAME=NUMBER ..  makes requests both ways in turn, round by round; prints a line of each
+//! bench-growth load port=PORT ..           makes requests to a server, and prints one line
+//! bench-growth locks port=PORT ..          runs a server whose shards are behind locks
+//! ```
 mod board;
 mod client;
 mod in_process;

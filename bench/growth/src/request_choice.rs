@@ -1,4 +1,4 @@
-//! What is asked for next: at random (xorshift64), of each thread by itself.
+//! Chooses the next request at random (xorshift64). Each thread has a choice of its own.
 use crate::shard_store::KeyRequest;
 use crate::sizes::Sizes;
 
@@ -24,7 +24,7 @@ impl RequestChoice {
         self.state
     }
 
-    /// A number below this one.
+    /// Returns a random number below this one.
     pub fn below(&mut self, end: u64) -> u64 {
         ((u128::from(self.number()) * u128::from(end)) >> 64) as u64
     }

@@ -1,4 +1,4 @@
-//! A round: threads make requests for a while, beside one that moves shards.
+//! A round: threads make requests for a while. If shards must move, another thread moves them meanwhile.
 use crate::round_result::RoundResult;
 use crate::sizes::Sizes;
 use std::sync::atomic::{AtomicBool, Ordering::Relaxed};
@@ -6,17 +6,17 @@ use std::sync::Barrier;
 use std::thread;
 use std::time::{Duration, Instant};
 
-/// How long a thread sleeps at most before it looks again whether the round is over.
+/// How long a thread sleeps at most before it checks again whether the round is over.
 const NAP: Duration = Duration::from_millis(5);
 
-/// What the threads of a round share: they begin together, and end soon after each other.
+/// The state that the threads of a round share. By it they begin together, and end soon after each other.
 pub struct TimedRound {
     start: Barrier,
     is_over: AtomicBool,
 }
 
 impl TimedRound {
-    /// Has this thread wait until all are ready.
+    /// Waits until all threads are ready.
     pub fn begin(&self) {
         self.start.wait();
     }
@@ -25,8 +25,8 @@ impl TimedRound {
         self.is_over.load(Relaxed)
     }
 
-    /// Has the work done at this rate a second until the end, as far as it comes, and returns how often; the work is
-    /// told how often it was done.
+    /// Does the work at this rate a second until the round is over, or less often if it takes longer. Returns how often
+    /// it was done. The work gets the number of times that it was done before.
     pub fn paced(&self, rate: u64, mut work: impl FnMut(u64)) -> u64 {
         let (began, mut made) = (Instant::now(), 0);
         while !self.is_over() {
@@ -43,8 +43,8 @@ impl TimedRound {
     }
 }
 
-/// Runs a round of so many threads: each makes requests, and returns how many and the times of some; one moves shards,
-/// where some are to be moved, and returns how many it moved.
+/// Runs a round with this many threads. Each makes requests, and returns how many it made and the times of some. If
+/// shards must move, one thread moves them, and returns how many it moved.
 pub fn run(
     sizes: &Sizes,
     threads: usize,

@@ -1,19 +1,19 @@
-//! What a round came to.
+//! The results of a round.
 use std::time::Duration;
 
-/// How many times of requests each thread keeps at most.
+/// The most requests whose times a thread keeps.
 pub const MOST_TIMES: usize = 1 << 16;
 
 pub struct RoundResult {
     pub requests: u64,
     pub migrations: u64,
     pub taken: Duration,
-    /// The nanoseconds of some requests.
+    /// The times of some requests, in nanoseconds.
     pub times: Vec<u64>,
 }
 
 impl RoundResult {
-    /// The time below which so many of 1,000 requests stayed.
+    /// Returns the time in which this many of 1,000 requests were made. The times must be sorted.
     fn part(&self, thousandths: usize) -> u64 {
         let last = self.times.len().saturating_sub(1);
         self.times
@@ -22,8 +22,8 @@ impl RoundResult {
             .unwrap_or(0)
     }
 
-    /// Prints a line: the way, requests a second, the nanoseconds of the middle request and of the slowest of 100, and
-    /// migrations a second.
+    /// Prints a line: the way, the requests a second, the median and the 99th percentile of their times in nanoseconds,
+    /// and the migrations a second.
     pub fn print(mut self, way: &str) {
         self.times.sort_unstable();
         let seconds = self.taken.as_secs_f64();

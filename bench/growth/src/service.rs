@@ -1,4 +1,4 @@
-//! Texts on the library's board of the sample service. A worker has a pass of each server, and one to make envelopes.
+//! Texts of the library's sample service. A worker has a pass of each server, and one more to make envelopes.
 use crate::keys::{bound_of, key_of};
 use crate::shard_store::{KeyRequest, ShardStore, ShardWorker};
 use crate::sizes::Sizes;
@@ -86,7 +86,8 @@ impl ShardWorker for Asker<'_> {
                     thread::yield_now();
                     envelope = refused.envelope;
                 }
-                // What was forwarded to a server that owns the shard no more comes anew.
+                // If an envelope was forwarded to a server that doesn't own the shard any more, the request is sent
+                // anew.
                 Err(_) => {
                     let read = pass.look(asked.shard as u16).expect("a shard");
                     server = read.owner().expect("an owner");
@@ -98,7 +99,7 @@ impl ShardWorker for Asker<'_> {
     }
 }
 
-/// Whether another thread had the shard or was first.
+/// Returns whether the request was refused because another thread had the shard or was first.
 fn is_passing(refused: &ServeRefused) -> bool {
     matches!(refused.fault, ServeFault::Admit(fault) if fault.is_passing())
 }

@@ -1,8 +1,8 @@
-//! What each way does: it keeps a body for each shard, which threads share, and moves shards between two servers.
+//! The work of each way. It keeps a body for each shard, which threads share, and moves shards between two servers.
 
 /// A way to keep the bodies.
 pub trait ShardStore: Sync {
-    /// What one thread acts with.
+    /// The worker by which one thread makes requests.
     type Worker<'a>: ShardWorker
     where
         Self: 'a;
@@ -14,7 +14,7 @@ pub trait ShardStore: Sync {
 }
 
 pub trait ShardWorker {
-    /// Makes a request to the shard, and returns what its reply tells.
+    /// Makes a request to the shard, and returns the number in its reply.
     fn request(&mut self, asked: KeyRequest) -> u64;
 }
 

@@ -1,24 +1,24 @@
-//! How large everything is.
+//! The sizes of a run.
 
-/// Sizes of a run, by words `NAME=NUMBER`.
+/// The sizes of a run, which words `NAME=NUMBER` set.
 #[derive(Clone, Copy)]
 pub struct Sizes {
     pub port: u16,
     pub clients: usize,
-    /// Whether a server has its texts already, where it isn't 0.
+    /// If this isn't 0, the server has its texts already.
     pub filled: u64,
     pub shards: usize,
     pub threads: usize,
     pub keys: u32,
     pub text: usize,
-    /// Migrations a second.
+    /// The migrations a second, or 0 if no shard moves.
     pub migrations: u64,
     pub rounds: usize,
     pub milliseconds: u64,
 }
 
 impl Sizes {
-    /// The sizes that the words say, and else those below.
+    /// Returns the sizes that the words name. If no word names a size, it is the one below.
     pub fn of(words: &[String]) -> Sizes {
         let mut sizes = Sizes {
             port: 0,

@@ -1,5 +1,7 @@
-//! Times the steps of a proved server of a shared store: 10,000 clients put texts of 32 bytes at 10,000 keys of 16, in batches of 100. While
-//! requests come, 100 others are in a transaction that isn't made yet. Each line names a step, and has its nanoseconds in one round.
+//! Times the steps of a proved server of a shared store. 10,000 clients put texts of 32 bytes at 10,000 keys of 16
+//! bytes, in batches of 100. While the requests of a batch come, the 100 requests of the batch before are in a
+//! transaction that isn't made yet. The program prints a line for each step, with the nanoseconds that it took on
+//! average in one round.
 
 use durkenzo_store_sys::calls::{self, AnswerNumbers, Forward, Handle, Reply, SentNumbers};
 use std::time::Instant;
@@ -12,7 +14,7 @@ const WAITS: u32 = 70;
 /// A record that server 1 owns.
 const WORD: u64 = (1 << 61) | (1 << 48) | 1;
 
-/// The next state of a pseudo-random choice (xorshift64).
+/// Returns the next state of a pseudo-random choice (xorshift64).
 fn next(state: u64) -> u64 {
     let state = state ^ (state << 13);
     let state = state ^ (state >> 7);
@@ -23,7 +25,7 @@ fn must(code: u32, wanted: u32, what: &str) {
     assert!(code == wanted, "{what}: code {code}");
 }
 
-/// The bytes of a request of this kind: on the client's key, with a text where it puts one.
+/// Returns the bytes of a request of this kind, for the client's key, with a text if it puts one.
 fn request(kind: u8, client: u64) -> Vec<u8> {
     let mut bytes = vec![kind, 16];
     bytes.extend(format!("account-{client:08}").into_bytes());
@@ -33,7 +35,7 @@ fn request(kind: u8, client: u64) -> Vec<u8> {
     bytes
 }
 
-/// A server, and each client's last number.
+/// A server, and the number of each client's last request.
 struct MeasuredServer {
     handle: Handle,
     numbers: Vec<u64>,
@@ -42,7 +44,7 @@ struct MeasuredServer {
     choice: u64,
 }
 
-/// Nanoseconds of each step, all together.
+/// The nanoseconds that each step took, all together.
 #[derive(Default)]
 struct Times {
     take: f64,
@@ -61,7 +63,7 @@ fn timed<T>(total: &mut f64, run: impl FnOnce() -> T) -> T {
     done
 }
 
-// Of all calls below: the handle is this value's alone, and pointers go with their lengths.
+// All calls below are safe because only this value uses the handle, and each pointer is given with its length.
 impl MeasuredServer {
     fn new() -> MeasuredServer {
         let mut handle = Handle::empty();
@@ -118,11 +120,12 @@ impl MeasuredServer {
         must(code, wanted, "a request");
     }
 
-    /// As many clients as a batch has requests, each another one.
+    /// Returns the clients of a batch, all of them different. They have odd numbers if `from` is 0, and even ones if it
+    /// is 1.
     fn chosen(&mut self, from: u64) -> Vec<u64> {
         self.choice = next(self.choice);
         let first = self.choice >> 32;
-        // 7,919 is prime, so these differ; those of two batches in turn are of other halves.
+        // These differ, because 7,919 is prime to 5,000. Two batches in a row must have clients of different halves.
         (0..BATCH)
             .map(|at| 1 + ((first + at * 7_919) % (CLIENTS / 2)) * 2 + from)
             .collect()
@@ -195,7 +198,7 @@ impl MeasuredServer {
         }
     }
 
-    /// What was sent is made, and what has come meanwhile is sent.
+    /// Tells the server that its transaction was made, takes the answers, and sends the requests that came meanwhile.
     fn turn(&mut self, times: &mut Times) {
         let (made, read) = timed(&mut times.made, || self.made());
         timed(&mut times.answers, || self.answers(made, read));
@@ -203,7 +206,7 @@ impl MeasuredServer {
         timed(&mut times.sending, || self.sending());
     }
 
-    /// Requests that were made come again.
+    /// Sends the last request of each of these clients again. They must be made already.
     fn again(&mut self, clients: &[u64], times: &mut Times) {
         let requests: Vec<Vec<u8>> = clients.iter().map(|it| request(2, *it)).collect();
         timed(&mut times.again, || {
@@ -262,7 +265,7 @@ fn main() {
         .and_then(|it| it.parse().ok())
         .unwrap_or(1);
     let mut server = MeasuredServer::new();
-    // Each client is known, and each key has a text, before anything is timed.
+    // Before anything is timed, the server must know each client, and each key must have a text.
     let mut untimed = Times::default();
     for batch in 0..CLIENTS / BATCH {
         let clients: Vec<u64> = (1 + batch * BATCH..=(batch + 1) * BATCH).collect();
