@@ -1,15 +1,14 @@
-"""Makes crates again of those that stand beside the gate: the tests and the benches, which `rt ci` neither proves nor
-runs.
+"""Restores the crates that lie beside the gate: the tests and the benches, which `rt ci` neither proves nor runs.
 
-`rt ci` proves whatever crates.txt lists, and refuses a file .rt or .antt, and a second crates.txt, anywhere else. So
-these crates stand in a form that it lets be: src/*.rs for .rt, and in specs/ and proofs/ *.antt.txt for .antt. A list
-beside them, PART/crates.list, says what crates.txt would: a line is the crate's folder below PART and then its line
-of crates.txt,
+`rt ci` proves every crate in crates.txt, and refuses a file .rt or .antt, and a second crates.txt, anywhere else. So
+these crates have other names there, which it ignores: src/*.rs for .rt, and in specs/ and proofs/ *.antt.txt for .antt.
+A list beside them, PART/crates.list, takes the place of crates.txt: a line is the crate's folder below PART and then
+its line of crates.txt,
 
     core            test_core: sm_ownership sm_ranges sm_word
     memory/crate    bench_map staticlib: sm_arena sm_map
 
-where # starts a comment. Other tools call
+and # starts a comment. Other tools call
 
     refreshed(PART)     to bring the tree of tests or bench up to date; returns its folder, in which crates/NAME are the
                         crates of crates.txt and of PART/crates.list, as copies, beside a crates.txt of both and
@@ -20,11 +19,11 @@ where # starts a comment. Other tools call
     wanted(PART)        for the bytes of each file of the tree by its path there; write(PATH, BYTES) writes one
 
 A script calls `python3 tools/beside.py PART`, which writes the folder of the tree after it is up to date. The exit
-status is 1 where the list names a folder that isn't there.
+status is 1 if the list names a folder that isn't there.
 
-Each checkout has a tree of its own for each part, in durkenzo/ of the user's cache ($XDG_CACHE_HOME, or ~/.cache). A
-file that is the same isn't written again, and what `rt` keeps in the tree's crates/*/out stays, so that a later proof
-goes on from there. What is edited in a tree is lost at the next call.
+Each checkout has its own tree for each part, in durkenzo/ of the user's cache ($XDG_CACHE_HOME, or ~/.cache). A file
+that hasn't changed isn't written again. The files that `rt` keeps in the tree's crates/*/out stay, so that a later
+proof goes on from there. If you edit a file in a tree, the next call overwrites it.
 """
 import fcntl
 import hashlib
@@ -73,7 +72,7 @@ def files_of(folder):
 
 
 def wanted(part):
-    """Returns what is to stand in the part's tree: for each path there the bytes of a file."""
+    """Returns the contents of the part's tree: for each path there the bytes of a file."""
     crates = {it.name: it for it in (TOP / "crates").iterdir() if (it / "src").is_dir()}
     beside = folders(part)
     found = {}
@@ -96,7 +95,7 @@ def take_back(part, tree, crate):
 
 
 def remove_others(tree, files):
-    """Removes each file of the tree's crates that isn't to stand there, and each crate that has none."""
+    """Removes each file of the tree's crates that must not be there, and each crate that has none."""
     crates = {it.parts[1] for it in files if it.parts[0] == "crates"}
     for folder in (tree / "crates").iterdir():
         if folder.name not in crates:

@@ -3,8 +3,8 @@
     broken(lines)   the lines with breaks in those that are too long; `rt fmt` then sets their indentation
     too_wide(lines) the numbers of the lines that are too long
 
-A line is broken where that costs least: outside brackets rather than inside, and before an arrow or a product rather
-than between two arguments. A comment is filled anew to the end of its paragraph. A text stays on its line.
+A line is broken at the place with the least cost: outside brackets rather than inside, and before an arrow or a product
+rather than between two arguments. A comment is filled anew to the end of its paragraph. A string stays on its line.
 """
 import functools
 import re
@@ -28,7 +28,7 @@ PER_LINE, PER_BRACKET, ARGUMENT, WORD, NEVER = 4, 7, 8, 11, 60
 
 
 def is_tuple(text):
-    """Tells whether a comma stands in the text before the bracket that closes it."""
+    """Returns whether there is a comma in the text before the bracket that closes it."""
     depth = 0
     for sign in text:
         depth += (sign in OPEN) - (sign in CLOSED)
@@ -88,7 +88,7 @@ def split(line, hang):
 
     @functools.cache
     def best(n):
-        """The least cost of the text from this start on, and where it is broken next."""
+        """Returns the least cost of the text from this start on, and the place of its next break."""
         indent = starts[0] if n == 0 else hang
         found = (1000 * max(0, indent + len(line) - starts[n] - WIDTH), None)
         for m in range(n + 1, len(starts)):
@@ -161,7 +161,8 @@ def broken(lines):
 
 
 def too_wide(lines):
-    """Yields the number of each line that is too long, but for a text alone on its line, or a line of a long one."""
+    """Yields the number of each line that is too long, except a string alone on its line, or a line of a long
+    string."""
     in_text = False
     for number, line in enumerate(lines, 1):
         if len(line) > WIDTH and not in_text and not TEXT.fullmatch(line):

@@ -1,7 +1,7 @@
-"""What the contracts of public functions cite, and what that cites in turn: definitions, types, members of traits.
+"""Finds the definitions, types and members of traits that the contracts of public functions cite, and those that these
+cite in turn.
 
-It goes by names, each resolved by the imports of the file in which it stands; a name that is bound where it stands cites
-nothing.
+It goes by names. The imports of a file resolve each name in it; a name that is bound in the file itself cites nothing.
 """
 import functools
 import re
@@ -79,7 +79,8 @@ def declaration(it):
 
 
 def view_of(it):
-    """Returns the lines of the value of a type that contracts see, and of how it is made; none where it has no other."""
+    """Returns the lines of the value of a type that contracts see, and of how it is made; no lines if it has no other
+    value."""
     found = next((view for view in VIEW.finditer(text_of(it.file)) if view[1] == it.name), None)
     members = MEMBER_OF_VIEW.findall(found[0]) if found else []
     return [found[0].split("\n")[0], *"\n".join(members).split("\n"), "}"] if members else []
@@ -116,7 +117,7 @@ def names_in(text):
 
 
 class Walk:
-    """Walks from what contracts cite to all that this rests on."""
+    """Walks from the names that contracts cite to everything on which these rest."""
 
     def __init__(self):
         self.definitions = {}  # by file and name: which ones each cites
@@ -133,7 +134,7 @@ class Walk:
         return cited
 
     def declare(self, names, file, cited):
-        """Notes the types of these names in a file of Rust, and what they cite."""
+        """Notes the types of these names in a file of Rust, and the names that they cite."""
         known = rust_names(file)
         for it in (known[name] for name in names if name in known):
             if it not in self.types and not text_of(it.file).count(f"\npub trait {it.name}"):
@@ -166,7 +167,7 @@ class Walk:
             self.member(rust_names(trait.file)[bound[1]], rest, cited)
 
     def cite(self, text, known, here, cited):
-        """Notes all that a text names, by what its file takes over and what it defines itself."""
+        """Notes all names in a text, by the names that its file imports and those that it defines itself."""
         for name in names_in(text):
             first, _, rest = name.partition(".")
             if first in known:
@@ -213,7 +214,7 @@ def selected(words):
 
 def from_above(definitions, first):
     """Returns the definitions file by file, in an order in which each comes after all that cite it. The first are those
-    that contracts cite; two that cite each other come as they stand."""
+    that contracts cite; two that cite each other keep their order."""
     files = {}
     for one, cited in definitions.items():
         files.setdefault(one[0], set()).update(it[0] for it in cited if it[0] != one[0])

@@ -1,4 +1,4 @@
-"""A trial of a cluster over etcd by faults: clients record what they are told, while nemeses disturb what runs."""
+"""A trial of a cluster over etcd by faults: clients record their answers, while nemeses disturb the processes."""
 import contextlib
 import pathlib
 import random
@@ -7,23 +7,23 @@ import subprocess
 import tempfile
 import time
 
-import fleet
+import local_processes
 import nemeses
 import phases
 import recording
 import relay
 
-# Before the clients end all is well again for so long, where they work long enough.
+# Before the clients end, nothing is disturbed for this long, if they work long enough.
 CALM = 8
 EPOCH, PATIENCE = 10, 5
-# How many milliseconds a command waits where none is to be refused: a busy machine isn't to refuse it either.
+# How many milliseconds a command waits if none may be refused, because a busy machine must not refuse it either.
 GRACEFUL_WAIT = 4_000
-# How many of one kind of what is wrong are told.
+# How many faults of one kind are printed.
 MOST = 5
-# How long it may take in seconds until all runs, until clients have read all keys a last time and each is judged, and
-# for what else is waited.
+# How many seconds it may take until everything runs, until clients have read all keys a last time and each is judged,
+# and for everything else.
 BEGIN, JUDGING, SLOW = 300, 300, 240
-# The clients' exit statuses where nothing wrong was found, but a key isn't answered any more, or not all are decided.
+# The clients' exit statuses if nothing wrong was found, but a key isn't answered any more, or not all keys are decided.
 UNREAD, UNDECIDED = 3, 4
 UNREAD_KEYS, UNDECIDED_KEYS = r"(\d+) keys could not be read", r"(\d+) undecided"
 HEAD = (
@@ -33,7 +33,7 @@ HEAD = (
 
 
 class ClusterTrial:
-    """One run: which nemeses work, how long, on how many processes, and what came of it."""
+    """One run: the nemeses that work, for how long, on how many processes, and the results."""
 
     def __init__(self, given, trial, program, planting=None):
         self.given, self.trial, self.program, self.planting = given, trial, program, planting
@@ -47,14 +47,15 @@ class ClusterTrial:
         """The kinds that these words name, without those that this machine can't have, which is said."""
         kinds = [*nemeses.KINDS] if words == "all" else words.split(",")
         if unknown := [it for it in kinds if it not in nemeses.KINDS]:
-            raise fleet.NotBegun(f"there is no nemesis {unknown[0]}: there are all, {', '.join(nemeses.KINDS)}")
+            why = f"there is no nemesis {unknown[0]}: there are all, {', '.join(nemeses.KINDS)}"
+            raise local_processes.NotBegun(why)
         lacking = {it: nemeses.lacking(it) for it in kinds}
         for it in filter(None, lacking.values()):
             print(f"trial: {it}", flush=True)
         return [it for it in kinds if not lacking[it]]
 
     def run(self):
-        """Runs it, prints its line of the table, and returns the exit status: 1 where something is wrong."""
+        """Runs it, prints its line of the table, and returns the exit status: 1 if something is wrong."""
         replay = None if self.given.no_replay else recording.program()
         at = {"prefix": "sm-trial-", "dir": self.given.room}
         with tempfile.TemporaryDirectory(**at) as room, contextlib.ExitStack() as stack:
@@ -81,7 +82,7 @@ class ClusterTrial:
         return self.tell(told, clients.returncode)
 
     def told_by(self, clients):
-        """What the clients and their checker say; they are ended where that takes too long."""
+        """Returns the output of the clients and their checker, which are ended if they take too long."""
         try:
             return clients.communicate(timeout=JUDGING)[0]
         except subprocess.TimeoutExpired:
@@ -90,7 +91,7 @@ class ClusterTrial:
             return clients.communicate()[0]
 
     def how_far(self):
-        """What the nemeses have done so far."""
+        """Returns how many faults the nemeses have made so far."""
         moves = self.moves
         moved = f", {moves.moved} moves, {moves.restarted} restarts, {moves.spread} spreads" if moves else ""
         return f"{sum(it.faults for it in self.others)} faults{moved}"
@@ -101,13 +102,13 @@ class ClusterTrial:
         if self.kinds == ["moves"] and not any(it.startswith("--wait") for it in self.given.option):
             options += ["--wait", GRACEFUL_WAIT]
         how = {"options": options, "etcd_options": [*map(str, etcd_options)], "env": env, "relays": relays}
-        return fleet.Fleet(room, self.program, self.given.members, self.given.servers, **how)
+        return local_processes.Fleet(room, self.program, self.given.members, self.given.servers, **how)
 
     def begin_clients(self, running):
         """Some call each server, some follow routes, and some number their requests."""
         given = self.given
         words = {
-            "address": ",".join(f"{fleet.HOST}:{it.port}" for it in running.servers), "seconds": self.seconds,
+            "address": ",".join(f"{local_processes.HOST}:{it.port}" for it in running.servers), "seconds": self.seconds,
             "clients": given.clients, "followers": given.followers, "numbered": given.numbered, "keys": given.keys,
             "readers": given.readers,
             "epoch": EPOCH, "patience": PATIENCE, "shards": 0, "seed": given.seed, "judging": JUDGING - SLOW // 2,
@@ -115,7 +116,7 @@ class ClusterTrial:
         if given.logs:
             words["unexplained"] = given.logs
         command = [self.trial, *(f"--{name}={value}" for name, value in words.items())]
-        return subprocess.Popen(command, stdout=subprocess.PIPE, text=True, preexec_fn=fleet.ended_with_us)
+        return subprocess.Popen(command, stdout=subprocess.PIPE, text=True, preexec_fn=local_processes.ended_with_us)
 
     def begin_nemeses(self, running):
         made = {it: nemeses.KINDS[it](running, self.chance, self.given.lease) for it in self.kinds}
@@ -128,7 +129,7 @@ class ClusterTrial:
             self.moves.thread.start()
 
     def disturb(self, running, clients):
-        """Has the nemeses work in turn by chance until it is nearly over, and then all be well again."""
+        """Has the nemeses work in turn by chance until the time is nearly over; then nothing is disturbed any more."""
         end = time.monotonic() + self.seconds - min(CALM, self.seconds / 3)
         # A restart takes about as long as a fault.
         turning, left = [*self.others, self.moves] if self.moves else self.others, []
@@ -148,7 +149,7 @@ class ClusterTrial:
                 it.begin()
 
     def see(self, recorder, program):
-        """Has what was recorded of the records be judged."""
+        """Judges the changes of records that were recorded."""
         if not recorder.caught_up(30):
             self.said.append("the last changes of records weren't told in time")
         if program:
@@ -158,7 +159,7 @@ class ClusterTrial:
         self.early = recording.dropped_early(recorder.told)
 
     def tell(self, told, status):
-        """Prints what is wrong and the line of the table; returns the exit status."""
+        """Prints the faults that were found and the line of the table; returns the exit status."""
         of = lambda pattern: int((re.search(pattern, told) or [0, 0])[1])
         refused, is_graceful = of(r"(\d+) refused"), not self.others and not self.planting
         told_lines = told.splitlines() if status or self.given.verbose or refused else []
@@ -187,8 +188,8 @@ class ClusterTrial:
 
 
 def keep_logs(running, recorder, folder):
-    """Copies what the processes said, and writes what was told of records."""
+    """Copies the logs of the processes, and writes the recorded changes of records."""
     pathlib.Path(folder).mkdir(parents=True, exist_ok=True)
-    for it in [*running.members, *running.servers]:
+    for it in [*running.members, *running.servers, *running.joined]:
         (pathlib.Path(folder) / it.log.name).write_bytes(it.log.read_bytes())
     (pathlib.Path(folder) / "records").write_text("".join(f"{it}\n" for it in recorder.told))

@@ -1,6 +1,6 @@
 /* Disturbs a program that it is loaded into (LD_PRELOAD), for tools/trial --fleet:
- *   DISTURBED=FOLDER  CLOCK_MONOTONIC is behind, and CLOCK_REALTIME ahead, by the two numbers of nanoseconds in a file,
- *                     which is made in the folder, by the number of the process
+ *   DISTURBED=FOLDER  CLOCK_MONOTONIC is behind, and CLOCK_REALTIME and CLOCK_BOOTTIME ahead, by the three numbers of
+ *                     nanoseconds in a file, which is made in the folder, by the number of the process
  *   VIA=PORT=RELAY,.. what connects to a port of 127.0.0.1 gets to the port of a relay instead
  */
 #define _GNU_SOURCE
@@ -20,6 +20,7 @@
 #include <unistd.h>
 
 static const long long second = 1000000000;
+enum { clocks = 3 };
 static volatile long long *turned;
 static long (*real_syscall)(long, ...);
 
@@ -29,8 +30,8 @@ __attribute__((constructor)) static void begin(void) {
   if (!folder || snprintf(path, sizeof path, "%s/%d", folder, (int)getpid()) >= (int)sizeof path) return;
   int file = open(path, O_RDWR | O_CREAT, 0600);
   if (file < 0) return;
-  if (ftruncate(file, 2 * sizeof *turned) == 0) {
-    void *shared = mmap(NULL, 2 * sizeof *turned, PROT_READ, MAP_SHARED, file, 0);
+  if (ftruncate(file, clocks * sizeof *turned) == 0) {
+    void *shared = mmap(NULL, clocks * sizeof *turned, PROT_READ, MAP_SHARED, file, 0);
     if (shared != MAP_FAILED) turned = shared;
   }
   close(file);
@@ -54,6 +55,7 @@ int clock_gettime(clockid_t clock, struct timespec *told) {
   if (failed || !turned) return failed;
   if (clock == CLOCK_MONOTONIC) *told = later(*told, -turned[0]);
   if (clock == CLOCK_REALTIME) *told = later(*told, turned[1]);
+  if (clock == CLOCK_BOOTTIME) *told = later(*told, turned[2]);
   return 0;
 }
 

@@ -6,8 +6,8 @@ CLOSED, INTERRUPTED = 141, 130
 
 
 def of(name, main):
-    """Runs a tool's main function, and returns its exit status: 141 where the reader of its output went away, 130 after
-    an interrupt from the keyboard, and 1 where a file or the output can't be read or written, which is said."""
+    """Runs a tool's main function, and returns its exit status: 141 if the reader of its output went away, 130 after an
+    interrupt from the keyboard, and 1, with a message, if a file or the output can't be read or written."""
     try:
         return finished(main)
     except BrokenPipeError:
@@ -24,7 +24,8 @@ def of(name, main):
 
 
 def of_plain(told, main, *options):
-    """The same, of a tool that has these options alone: with --help it prints the head of its file, and it refuses others."""
+    """Does the same for a tool that has only these options: with --help it prints the head of its file, and it refuses
+    others."""
     name = os.path.basename(sys.argv[0])
     if {"-h", "--help"} & set(sys.argv):
         return of(name, lambda: print(told.strip()))

@@ -1,7 +1,7 @@
-"""Who disturbs the processes of a fleet, and the etcd below them, while clients call: each nemesis makes a fault of its
-kind, and mends it.
+"""Nemeses, which disturb the processes of a fleet, and the etcd below them, while clients call: each makes a fault of
+its kind, and repairs it.
 
-`turn` makes one fault and mends it, which takes seconds, and returns what it did in words.
+`turn` makes one fault and repairs it, which takes seconds. It returns a description of the fault.
 """
 import contextlib
 import mmap
@@ -10,16 +10,19 @@ import signal
 import subprocess
 import time
 
-import fleet
+import local_processes
 
-# The space of etcd if it is to be filled, what is written until it is, and how much of that at a time.
+# The space of etcd if it must be filled, the bytes that are written until it is full, and how many of them at a time.
 QUOTA, JUNK, PIECE = 24_000_000, b"junk", 500_000
 ALARM, TRIES = "/v3/maintenance/alarm", 30
-# By how many parts of a thousand clocks differ in speed: less than --drift has it.
+# By how many parts of a thousand clocks differ in speed: less than --drift says.
 DRIFT = 9
 # How long a command may take in seconds.
 LONG = 20
 SECOND = 1_000_000_000
+# The clocks that are turned, by their places in the file of a process.
+MONOTONIC, REAL, BOOT = range(3)
+CLOCKS = 3
 
 
 class Disturbed:
@@ -32,22 +35,22 @@ class Disturbed:
         subprocess.run(["cc", *flags], check=True)
 
     def environment(self, via):
-        """What a process is begun with, which connects to ports by these relays."""
+        """Returns the options of a process that connects to ports by these relays."""
         ports = ",".join(f"{port}={relay}" for port, relay in via.items())
         return {"LD_PRELOAD": self.library, "DISTURBED": str(self.folder), "VIA": ports}
 
     def turn(self, process, which, nanoseconds):
-        """Has CLOCK_MONOTONIC of the process be so much further behind (0), or CLOCK_REALTIME so much ahead (1)."""
+        """Sets a clock of the process back or ahead by this much more, but CLOCK_REALTIME by this much in all."""
         with contextlib.suppress(OSError, ValueError), open(self.folder / str(process.run.pid), "r+b") as file:
-            with mmap.mmap(file.fileno(), 16) as shared:
+            with mmap.mmap(file.fileno(), 8 * CLOCKS) as shared:
                 at = slice(8 * which, 8 * which + 8)
                 before = int.from_bytes(shared[at], "little", signed=True)
-                now = nanoseconds if which else before + nanoseconds
+                now = nanoseconds if which == REAL else before + nanoseconds
                 shared[at] = now.to_bytes(8, "little", signed=True)
 
 
 class Nemesis:
-    """One that disturbs a fleet by chance."""
+    """A nemesis that disturbs a fleet by chance."""
 
     def __init__(self, running, chance, lease):
         self.fleet, self.chance, self.lease, self.faults = running, chance, lease, 0
@@ -69,11 +72,11 @@ class Nemesis:
         for it in processes:
             it.begin()
         for it in processes:
-            with contextlib.suppress(fleet.NotBegun):
+            with contextlib.suppress(local_processes.NotBegun):
                 it.wait(it.is_up)
 
     def links(self, server):
-        """Those between a server and etcd."""
+        """Returns the links between a server and etcd."""
         return [it for it in self.fleet.relays.links if it.startswith("to etcd") and it.endswith(f"from {server.name}")]
 
 
@@ -87,13 +90,42 @@ class KillServer(Nemesis):
 
 
 class Restart(Nemesis):
-    """One after another, as an upgrade does."""
+    """Restarts one server after another, as an upgrade does."""
 
     def turn(self):
         for it in self.fleet.servers:
             it.stop()
             self.begun(it)
         return "SIGTERM ends each server in turn, and it begins again"
+
+
+class Resize(Nemesis):
+    """Adds a server, to which shards go, and removes it again, as an operator does."""
+
+    def __init__(self, *given):
+        super().__init__(*given)
+        # Begun anew in each turn.
+        self.joining = None
+
+    def turn(self):
+        count = len(self.fleet.servers)
+        self.joining = joining = self.joining or self.fleet.joining()
+        self.resized(count + 1)
+        self.begun(joining)
+        spread = self.server().control("SPREAD") or "nothing"
+        stayed = self.wait(0.5, 2 * self.lease)
+        joining.stop()
+        self.resized(count)
+        return f"{joining.name} is there for {stayed}, SPREAD is answered by {spread!r}, and SIGTERM ends it"
+
+    def resized(self, count):
+        """Makes the settings name this many servers."""
+        for _ in range(TRIES):
+            told = self.server().control("RESIZE", count)
+            if told == f"servers {count}":
+                return
+            time.sleep(1)
+        raise local_processes.NotBegun(f"RESIZE {count} is answered by {told!r}")
 
 
 class StopContinue(Nemesis):
@@ -108,7 +140,7 @@ class StopContinue(Nemesis):
 
 
 class Suspend(Nemesis):
-    """As a machine that was suspended: CLOCK_MONOTONIC stood, and CLOCK_BOOTTIME went on."""
+    """Does the same as a suspended machine: CLOCK_MONOTONIC stood still, and CLOCK_BOOTTIME went on."""
 
     def turn(self):
         server = self.server()
@@ -117,7 +149,7 @@ class Suspend(Nemesis):
         try:
             stopped = self.wait(0.5 * self.lease, 2.5 * self.lease)
         finally:
-            self.fleet.disturbed.turn(server, 0, int((time.monotonic() - began) * SECOND))
+            self.fleet.disturbed.turn(server, MONOTONIC, int((time.monotonic() - began) * SECOND))
             server.signal(signal.SIGCONT)
         return f"{server.name} is suspended for {stopped}"
 
@@ -144,7 +176,7 @@ class CutServers(Nemesis):
         link, way = self.chance.choice(links), self.chance.choice([None, 0, 1])
         _, to, _, other = link.split()
         back = f"to {other} from {to}"
-        # Both ways are those of connections from either side.
+        # Both ways include connections from either side.
         for it, of in {None: [(link, None), (back, None)], 0: [(link, 0), (back, 1)], 1: [(link, 1), (back, 0)]}[way]:
             self.fleet.relays.cut(it, of)
         try:
@@ -215,7 +247,7 @@ class Full(Nemesis):
 
     def fill(self):
         """Whether etcd said that it has no more room."""
-        asked = {"key": fleet.text(JUNK), "value": fleet.text(bytes(PIECE))}
+        asked = {"key": local_processes.text(JUNK), "value": local_processes.text(bytes(PIECE))}
         for _ in range(4 * QUOTA // PIECE):
             with contextlib.suppress(OSError):
                 if "space exceeded" in str(self.fleet.ask("/v3/kv/put", asked).get("error", "")):
@@ -223,10 +255,10 @@ class Full(Nemesis):
         return False
 
     def make_room(self):
-        """What an operator does, until etcd takes writes again."""
+        """Does the work of an operator, until etcd takes writes again."""
         for _ in range(TRIES):
             with contextlib.suppress(OSError):
-                self.fleet.ask("/v3/kv/deleterange", {"key": fleet.text(JUNK)})
+                self.fleet.ask("/v3/kv/deleterange", {"key": local_processes.text(JUNK)})
             compact(self.fleet)
             for it in self.fleet.members:
                 with contextlib.suppress(OSError):
@@ -234,7 +266,7 @@ class Full(Nemesis):
             with contextlib.suppress(OSError):
                 for it in self.fleet.ask(ALARM, {"action": "GET"}).get("alarms", []):
                     self.fleet.ask(ALARM, {**it, "action": "DEACTIVATE"})
-                if "error" not in self.fleet.ask("/v3/kv/put", {"key": fleet.text(JUNK)}):
+                if "error" not in self.fleet.ask("/v3/kv/put", {"key": local_processes.text(JUNK)}):
                     return
             time.sleep(1)
 
@@ -255,17 +287,30 @@ class Compact(Nemesis):
 
 
 class Clock(Nemesis):
-    """Sets CLOCK_REALTIME of a server. By what measures how long a lease lasts, in etcd's members, no system does."""
+    """Sets CLOCK_REALTIME of a server. No system turns the clock by which etcd's members measure leases."""
 
     def turn(self):
         server, seconds = self.server(), self.chance.choice([-3_600, -60, -2, 2, 60, 3_600])
-        self.fleet.disturbed.turn(server, 1, seconds * SECOND)
+        self.fleet.disturbed.turn(server, REAL, seconds * SECOND)
         self.wait(0.5, 1.5 * self.lease)
         return f"the clock of {server.name} jumps to {seconds:+d} s"
 
 
+class BootClock(Nemesis):
+    """Makes CLOCK_BOOTTIME of a server jump: ahead, so that its lease has ended for it, or back, by less than --drift
+    says."""
+
+    def turn(self):
+        server, back = self.server(), -self.lease * DRIFT / 1_000
+        seconds = self.chance.choice([back, back, 0.7 * self.lease, 2 * self.lease, 60])
+        self.fleet.disturbed.turn(server, BOOT, int(seconds * SECOND))
+        # So no lease sees two steps back.
+        self.wait(self.lease, 1.5 * self.lease)
+        return f"CLOCK_BOOTTIME of {server.name} jumps by {seconds:+.3f} s"
+
+
 class Drift(Nemesis):
-    """Has a server begin again with a clock that is slow or fast, by less than --drift has it."""
+    """Restarts a server with a clock that is slow or fast, by less than --drift says."""
 
     def turn(self):
         server, slow = self.server(), self.chance.randint(-DRIFT, DRIFT)
@@ -288,19 +333,21 @@ class Fail(Nemesis):
 
 
 def compact(running):
-    """Has etcd forget all but the present."""
+    """Makes etcd forget everything but the present."""
     with contextlib.suppress(OSError):
-        revision = running.ask("/v3/kv/range", {"key": fleet.text(JUNK)})["header"]["revision"]
+        revision = running.ask("/v3/kv/range", {"key": local_processes.text(JUNK)})["header"]["revision"]
         running.ask("/v3/kv/compaction", {"revision": revision})
 
 
 KINDS = {
-    "kill-server": KillServer, "restart": Restart, "stop-continue": StopContinue, "suspend": Suspend,
+    "kill-server": KillServer, "restart": Restart, "resize": Resize, "stop-continue": StopContinue, "suspend": Suspend,
     "cut-etcd": CutEtcd, "cut-servers": CutServers, "slow-etcd": SlowEtcd, "etcd-gone": EtcdGone,
     "kill-etcd": KillEtcd, "kill-leader": KillLeader, "restart-etcd": RestartEtcd, "full": Full, "compact": Compact,
-    "clock": Clock, "drift": Drift, "fail": Fail,
+    "clock": Clock, "boot-clock": BootClock, "drift": Drift, "fail": Fail,
 }  # fmt: skip
-# What clients' process does beside all others: it migrates and drains.
+# The work of the clients' process beside all other nemeses: it migrates and drains.
 MOVES = "moves"
-# Those that leave each call answered.
-GRACEFUL = {"restart", "fail", "clock", "drift", MOVES}
+# The nemeses that need a program in which clocks can be turned.
+OF_FEATURE = {"drift", "boot-clock"}
+# The nemeses that leave each call answered.
+GRACEFUL = {"restart", "resize", "fail", "clock", "drift", MOVES}

@@ -1,5 +1,5 @@
 """A trial of a fleet: processes of a service that counts run over members of etcd, clients call them, and nemeses
-disturb what runs."""
+disturb them."""
 import contextlib
 import pathlib
 import queue
@@ -13,8 +13,8 @@ import tempfile
 import threading
 import time
 
-import fleet
 import fleet_nemeses
+import local_processes
 import other_crates
 import planting
 import recording
@@ -24,11 +24,11 @@ import runs
 PACKAGE, EXAMPLE, FEATURE = "durkenzo-fleet", "trial", "plants"
 # How long clients may take to begin and to end, in seconds, and within how many all shards must be answered.
 BEGIN, END, BOUND = 180, 60, 60
-# How long a call is tried if none is to be refused, and beside faults.
+# How long a call is tried if none may be refused, and beside faults.
 PATIENCE, IMPATIENCE = 20, 5
-# How many findings in calm are told.
+# How many findings in calm are printed.
 MOST = 40
-# What is between two faults, in seconds.
+# The time between two faults, in seconds.
 CALM = (0.5, 2.5)
 # How many milliseconds pass between two migrations.
 MOVES = 20
@@ -38,10 +38,13 @@ HEAD = (
     "| nemesis | faults | calls | unsure | refused | lost as told | longest until all are answered, ms |\n"
     "|---|---|---|---|---|---|---|"
 )
-# How long before a lease ends by itself, and how long after that, what isn't to be in calm comes of it.
+# How long before a lease ends by itself, and how long after that, findings in calm come from it.
 BEFORE, AFTER = 2, 20
-# How late it may be told that a process has left, in seconds. What a fault leaves ends by itself afterwards.
+# How late the news may come that a process has left, in seconds. Leases that a fault leaves behind end by themselves
+# afterwards.
 LATE = 2
+# What a member of etcd says that has lost its leader.
+LOST = re.compile(r"raft(\d+/\d+/\d+ \d+:\d+:\d+) INFO: raft\.node: \S+ lost leader")
 FAULT = re.compile(
     r"fault: (\S+): (\S+) s, all answered (\d+) ms later; (\d+) calls, \d+ reads, \d+ forwarded, (\d+) unsure, "
     r"(\d+) refused, (\d+) lost as told"
@@ -59,11 +62,12 @@ class FailPresent(planting.Bug):
 
     @staticmethod
     def is_absence(compared):
-        return fleet.bytes_of(compared["key"]).startswith(planting.SERVER) and not int(compared.get("mod_revision", 0))
+        is_of_server = local_processes.bytes_of(compared["key"]).startswith(planting.SERVER)
+        return is_of_server and not int(compared.get("mod_revision", 0))
 
 
 class Plant:
-    """A wrong rule: what a server is begun with, or what is done between servers and etcd, and who shows it."""
+    """A wrong rule: the options of a server, or a change between servers and etcd, and the nemesis that shows it."""
 
     def __init__(self, nemesis, env=None, bug=None):
         self.nemesis, self.env, self.bug = nemesis, env or {}, bug
@@ -81,7 +85,7 @@ PLANTS = {
 }
 
 
-class Service(fleet.Process):
+class Service(local_processes.Process):
     """A process of the service that counts."""
 
     def __init__(self, number, folder, program, port, options):
@@ -89,25 +93,28 @@ class Service(fleet.Process):
         super().__init__(f"server-{number}", [program, "serve", *options], folder / f"server-{number}.log")
 
     def is_up(self):
-        with contextlib.suppress(OSError), socket.create_connection((fleet.HOST, self.port), 1):
+        with contextlib.suppress(OSError), socket.create_connection((local_processes.HOST, self.port), 1):
             return True
         return False
 
     def control(self, *words):
-        """What the fleet's control answers to these words by way of this server."""
-        command = [self.program, "command", f"{fleet.HOST}:{self.port}", *map(str, words)]
+        """Returns the answer of the fleet's control to these words, by way of this server."""
+        command = [self.program, "command", f"{local_processes.HOST}:{self.port}", *map(str, words)]
         with contextlib.suppress(subprocess.TimeoutExpired):
             ran = subprocess.run(command, capture_output=True, text=True, timeout=fleet_nemeses.LONG)
             return (ran.stdout or ran.stderr).strip()
         return "nothing in time"
 
 
-class ServiceFleet(fleet.Fleet):
+class ServiceFleet(local_processes.Fleet):
     """Members of etcd, and processes of the service over them; between any two there is a relay."""
 
     def __init__(self, folder, program, disturbed, **how):
         super().__init__(folder, program, **how)
         self.disturbed = disturbed
+
+    def peer_at(self, number):
+        """Nothing: a process listens at one port, for clients and others."""
 
     def begin_servers(self):
         self.servers = [self.server(number, None) for number in range(1, self.count + 1)]
@@ -120,11 +127,13 @@ class ServiceFleet(fleet.Fleet):
         first = (number - 1) % len(self.members)
         ones = [*self.members[first:], *self.members[:first]]
         members = [self.between(f"to {it.name} from server-{number}", it.port) for it in ones]
-        others = {it + 1: port for it, port in enumerate(self.client_ports) if it + 1 != number}
+        # There is no relay between the servers that start with the fleet and one that joins later.
+        early = range(1, self.count + 1)
+        others = {it: self.client_ports[it - 1] for it in early if number in early and it != number}
         via = {port: self.between(f"to server-{it} from server-{number}", port) for it, port in others.items()}
         words = {
-            "etcd": ",".join(f"http://{fleet.HOST}:{it}" for it in members), "name": number, "servers": self.count,
-            "listen": f"{fleet.HOST}:{self.client_ports[number - 1]}",
+            "etcd": ",".join(f"http://{local_processes.HOST}:{it}" for it in members), "name": number,
+            "servers": max(self.count, number), "listen": f"{local_processes.HOST}:{self.client_ports[number - 1]}",
         }  # fmt: skip
         options = [str(it) for name, value in words.items() for it in (f"--{name}", value)]
         made = Service(number, self.folder, self.program, self.client_ports[number - 1], [*options, *self.options])
@@ -133,13 +142,14 @@ class ServiceFleet(fleet.Fleet):
 
 
 class Clients:
-    """The process of the clients, and what it says."""
+    """The process of the clients, and its output."""
 
     def __init__(self, program, words):
         command = [program, "call", *(f"--{name}={value}" for name, value in words.items())]
-        how = {"stdin": subprocess.PIPE, "stdout": subprocess.PIPE, "text": True, "preexec_fn": fleet.ended_with_us}
+        how = {"stdin": subprocess.PIPE, "stdout": subprocess.PIPE, "text": True}
+        how["preexec_fn"] = local_processes.ended_with_us
         self.run, self.said, self.sums = subprocess.Popen(command, **how), queue.Queue(), ""
-        # What is wrong, and what is if no lease ended by itself then.
+        # The findings that are wrong, and those that are wrong if no lease ended by itself then.
         self.wrong, self.in_calm = [], []
         self.has_found = threading.Event()
         self.thread = threading.Thread(target=self.read, daemon=True)
@@ -166,13 +176,13 @@ class Clients:
             print(line, file=self.run.stdin, flush=True)
 
     def next(self, seconds):
-        """The next line but those of what is wrong; none if there is none in that time."""
+        """Returns the next line that isn't a finding, or none if none comes in this time."""
         with contextlib.suppress(queue.Empty):
             return self.said.get(timeout=seconds)
         return None
 
     def end(self):
-        """Has them end; returns their exit status."""
+        """Ends the clients, and returns their exit status."""
         with contextlib.suppress(OSError):
             self.run.stdin.close()
         try:
@@ -185,7 +195,7 @@ class Clients:
 
 
 class FleetTrial:
-    """One run: which nemeses work, how long, on how many processes, and what came of it."""
+    """One run: the nemeses that work, for how long, on how many processes, and the results."""
 
     def __init__(self, given):
         self.given, self.plant = given, PLANTS[given.plant] if given.plant else None
@@ -200,16 +210,16 @@ class FleetTrial:
         kinds = [*fleet_nemeses.KINDS, fleet_nemeses.MOVES] if words == "all" else words.split(",")
         known = [*fleet_nemeses.KINDS, fleet_nemeses.MOVES]
         if unknown := [it for it in kinds if it not in known]:
-            raise fleet.NotBegun(f"there is no nemesis {unknown[0]}: there are all, {', '.join(known)}")
+            raise local_processes.NotBegun(f"there is no nemesis {unknown[0]}: there are all, {', '.join(known)}")
         return kinds
 
     def needs_feature(self):
-        return bool(self.plant and self.plant.env) or "drift" in self.kinds
+        return bool(self.plant and self.plant.env) or not fleet_nemeses.OF_FEATURE.isdisjoint(self.kinds)
 
     def run(self):
-        """Runs it, prints what came of it, and returns the exit status: 1 if anything is wrong."""
+        """Runs it, prints the results, and returns the exit status: 1 if anything is wrong."""
         if not shutil.which("etcd") or not shutil.which("cc"):
-            raise fleet.NotBegun("etcd or cc isn't installed: tools/setup installs them")
+            raise local_processes.NotBegun("etcd or cc isn't installed: tools/setup installs them")
         at = {"prefix": "sm-fleet-", "dir": self.given.room}
         with tempfile.TemporaryDirectory(**at) as room, contextlib.ExitStack() as stack:
             room = pathlib.Path(room)
@@ -241,13 +251,13 @@ class FleetTrial:
         is_graceful = {*self.kinds} <= fleet_nemeses.GRACEFUL
         return {
             "etcd": ",".join(running.endpoints()), "seed": self.given.seed, "clients": self.given.clients,
-            "servers": ",".join(f"{fleet.HOST}:{it.port}" for it in running.servers), "bound": BOUND,
+            "servers": ",".join(f"{local_processes.HOST}:{it.port}" for it in running.servers), "bound": BOUND,
             "moves": MOVES if fleet_nemeses.MOVES in self.kinds else 0,
             "patience": PATIENCE if is_graceful else IMPATIENCE,
         }  # fmt: skip
 
     def disturb(self, running, clients, recorder):
-        """Has nemeses work in turn by chance, each fault once all is well, until the time is over."""
+        """Has nemeses work in turn by chance, each fault after everything has recovered, until the time is over."""
         kinds = {it: fleet_nemeses.KINDS[it] for it in self.kinds if it != fleet_nemeses.MOVES}
         made = {name: kind(running, self.chance, self.given.lease) for name, kind in kinds.items()}
         end, left = self.began + self.seconds, []
@@ -260,7 +270,7 @@ class FleetTrial:
             self.fault(left.pop(), made, clients)
 
     def is_done(self, clients, recorder):
-        """Whether the wrong rule is found that is planted. What wasn't to be in calm counts once it is known whether a
+        """Returns whether the planted wrong rule was found. Findings in calm count only once it is known whether a
         lease ended by itself then."""
         if not self.plant or clients.has_found.is_set():
             return bool(self.plant)
@@ -276,6 +286,9 @@ class FleetTrial:
         is_fault = name not in fleet_nemeses.GRACEFUL
         if is_fault:
             clients.tell(f"fault {name}")
+            # What the fault does is no finding in calm, however busy the machine is.
+            if clients.next(BOUND) != f"begun: {name}":
+                print(f"trial: the clients don't hear of {name} in {BOUND} s")
         began = time.monotonic()
         done = made[name].turn()
         if not is_fault:
@@ -305,7 +318,8 @@ class FleetTrial:
         return 1
 
     def ended(self, recorder):
-        """When leases of servers ended by themselves, and whose: but for what faults and restarts do."""
+        """Returns when leases of servers ended by themselves, and whose they were, without those that faults and
+        restarts ended."""
         left, ended = [{} for _ in self.leaves], []
         for told in [it for it in recorder.told if it.key and not it.is_record() and it.value is None]:
             at, server = told.at + recorder.start, told.key.decode()
@@ -322,11 +336,23 @@ class FleetTrial:
         before = BEFORE + self.given.lease
         return [any(it - before <= at <= it + AFTER for it, _ in ended) for at in times]
 
-    def judge_calm(self, clients, recorder):
-        """Tells what wasn't to be in calm: it is wrong unless a lease ended by itself."""
+    def stalls(self, running):
+        """Returns when a member lost its leader without a fault, as on a machine that stands still."""
+        ahead, found = time.time() - time.monotonic(), []
+        for it in running.members:
+            stamps = LOST.findall(it.log.read_text(errors="replace"))
+            found += [time.mktime(time.strptime(stamp, "%Y/%m/%d %H:%M:%S")) - ahead for stamp in stamps]
+        faults = [(began, end + LATE) for began, end, most in self.leaves if most > 1]
+        return [at for at in found if not any(began <= at <= end for began, end in faults)]
+
+    def judge_calm(self, clients, running, recorder):
+        """Prints the findings in calm: they are wrong unless a lease ended, or etcd lost its leader, by itself."""
         ended = self.ended(recorder)
         for at, server in ended:
             print(f"{at - self.began:7.1f} s  the lease of {server} ended by itself")
+        for at in self.stalls(running):
+            print(f"{at - self.began:7.1f} s  etcd lost its leader by itself")
+            ended.append((at, "etcd"))
         excused = self.excused([at for at, _ in clients.in_calm], ended)
         for (at, what), is_excused in zip(clients.in_calm, excused):
             told = f"{at - self.began:7.1f} s  in calm: {what}"
@@ -341,7 +367,7 @@ class FleetTrial:
         found = time.monotonic() - self.began
         status = clients.end()
         recorder.caught_up(END)
-        self.judge_calm(clients, recorder)
+        self.judge_calm(clients, running, recorder)
         if self.given.logs:
             keep_logs(running, self.given.logs)
         while line := clients.next(1):
@@ -364,9 +390,9 @@ class FleetTrial:
 
 
 def keep_logs(running, folder):
-    """Copies what the processes said."""
+    """Copies the logs of the processes."""
     pathlib.Path(folder).mkdir(parents=True, exist_ok=True)
-    for it in [*running.members, *running.servers]:
+    for it in [*running.members, *running.servers, *running.joined]:
         shutil.copy2(it.log, folder)
 
 

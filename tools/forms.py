@@ -1,5 +1,5 @@
-"""How the lines of scripts are written, as docs/SCRIPT.md tells it: the program prints that part of the page, out of
-the table that it reads lines by, and tools/doc-forms compares the two.
+"""How the lines of scripts are written, by docs/SCRIPT.md: the program prints that part of the page from the table by
+which it reads lines, and tools/doc-forms compares the two.
 
     FORMS              each line: topic, word, what follows it, what these words have to be, what it does, an example
     by_word(IS_WANTED) what the words have to be that follow each first word, by that word, both as bytes and text
@@ -38,7 +38,7 @@ def written(form):
     return f"{form.word} {form.arguments}".rstrip()
 
 
-# A request also follows `at A` and `client`, which have one behind what they take.
+# A request also follows `at A` and `client`, whose own words come before it.
 REQUESTS = by_word(lambda it: it.topic == "Requests")
 SENDING = by_word(lambda it: it.arguments.endswith("REQUEST"))
 COMMANDS = by_word(lambda it: it.word.encode() not in REQUESTS.keys() | SENDING.keys())

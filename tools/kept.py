@@ -1,15 +1,15 @@
-"""Keeps the program of tests that `rt try` builds, runs and removes, and runs tests of it again: each allocation
-refused in turn, or leaks looked for.
+"""Keeps the program of tests that `rt try` builds, runs and removes, and runs its tests again, with each allocation
+refused in turn, or to look for leaks.
 
-`rt try --fail-alloc N` compiles N into the program, and would compile anew for the next one. So it is given NEVER
-here, which no test comes to, and a copy of the program has another number in the place of those bytes. Leaks are
-looked for by the address sanitizer that is in it, which also says how many allocations a test makes.
+`rt try --fail-alloc N` compiles N into the program, and would compile it anew for the next N. So this gives it NEVER, a
+number that no test reaches, and puts another number in the place of those bytes in a copy of the program. The address
+sanitizer in the program looks for leaks, and also says how many allocations a test makes.
 
     kept = Kept(ROOM)           ROOM: the TMPDIR of `rt try --test --fail-alloc NEVER`
-    kept.program                where tools/trying.py is to keep it while that process runs
-    kept.names()                the names of its tests; none where it wasn't built
-    kept.prepare()              once it was kept, before tests run (with cc); ValueError where it has no place for N
-    kept.failure(TEST, N)       runs a test, where its N-th allocation is refused: none, or what it wrote where it
+    kept.program                the path at which tools/trying.py must keep it while that process runs
+    kept.names()                the names of its tests; none if it wasn't built
+    kept.prepare()              once it was kept, before tests run (with cc); ValueError if it has no place for N
+    kept.failure(TEST, N)       runs a test with its N-th allocation refused: none, or its output if it
                                 failed, misused memory or leaked
     kept.allocations(TEST)      how many allocations it makes
 """
@@ -32,7 +32,7 @@ TRIES, PAUSE = 200, 0.05
 
 def started(words, how):
     """Starts a program that was just written. A child that another thread forks meanwhile holds the file open for
-    writing until its own program runs, and Linux starts no file that is open for writing."""
+    writing until its own program runs, but Linux starts no file that is open for writing."""
     for _ in range(TRIES):
         try:
             return subprocess.Popen(words, **how)
@@ -49,7 +49,7 @@ class Kept:
         self.program = self.room / "kept"
 
     def prepare(self):
-        """Finds where the program has the number, and compiles what has it end by exit."""
+        """Finds the places of the number in the program, and compiles the code that ends it by exit."""
         self.places = [it.start() for it in re.finditer(re.escape(BYTES), self.program.read_bytes())]
         if not self.places:
             raise ValueError("the program hasn't the number of the allocation to refuse")
@@ -75,7 +75,7 @@ class Kept:
         return program
 
     def run(self, test, number, options):
-        """Runs a test, and returns its exit status and what it wrote."""
+        """Runs a test, and returns its exit status and its output."""
         told = {"ASAN_OPTIONS": options, "LD_PRELOAD": str(self.room / "leave.so")}
         how = {"stdout": subprocess.PIPE, "stderr": subprocess.STDOUT, "stdin": subprocess.DEVNULL}
         how = {**how, "text": True, "errors": "replace", "cwd": self.room, "env": told}

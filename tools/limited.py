@@ -1,11 +1,12 @@
-"""Runs commands that may not take longer than some time: one that does is ended, with all that it began."""
+"""Runs commands that may take only some time: a command that takes longer is ended, with all processes that it
+began."""
 import collections
 import contextlib
 import os
 import signal
 import subprocess
 
-# How long it may take until what was written is read, once all that may write is ended.
+# How long it may take to read the rest of the output, once all processes that may write are ended.
 READING = 10
 
 
@@ -37,8 +38,8 @@ def end(root, how):
 
 
 def run(command, seconds, *, input=None, **how):
-    """Runs a command with its output captured, and returns the finished run; one that takes too long is ended, with all
-    that it began, and is a subprocess.TimeoutExpired that has what was written until then."""
+    """Runs a command with its output captured, and returns the finished run. A command that takes too long is ended,
+    with all processes that it began; then this raises subprocess.TimeoutExpired with the output until then."""
     if input is not None:
         how["stdin"] = subprocess.PIPE
     how = {"stdout": subprocess.PIPE, "stderr": subprocess.PIPE, **how}

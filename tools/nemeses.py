@@ -1,6 +1,6 @@
-"""Who disturbs a cluster while clients call it: each nemesis makes a fault of its kind, and mends it.
+"""Nemeses, which disturb a cluster while clients call it: each makes a fault of its kind, and repairs it.
 
-A nemesis has a name, and `turn` makes one fault and mends it, which takes seconds. What it did is counted in `faults`.
+A nemesis has a name, and `turn` makes one fault and repairs it, which takes seconds. `faults` counts its faults.
 """
 import contextlib
 import pathlib
@@ -9,26 +9,26 @@ import signal
 import threading
 import time
 
-import fleet
+import local_processes
 import served
 
 LIBFAKETIME = "/usr/lib/x86_64-linux-gnu/faketime/libfaketime.so.1"
-# The space of etcd where it is to be filled, what is written until it is, and how much of that at a time.
+# The space of etcd if it must be filled, the bytes that are written until it is full, and how many of them at a time.
 QUOTA, JUNK, PIECE = 24_000_000, b"junk", 500_000
 TRIES = 10
 AWAY = (0.2, 4.0)
 # How long a command of a control may take.
 LONG = 20
-# What is told of one: that it is done, and of one that resumes that it isn't paused.
+# The answers of a server: done, and, to a resume, that the shard isn't paused.
 DONE, NOT_PAUSED = "", "REFUSED WrongPhase"
 
 
 class Nemesis:
-    """One that disturbs a fleet by chance."""
+    """A nemesis that disturbs a fleet by chance."""
 
     def __init__(self, running, chance, lease):
         self.fleet, self.chance, self.lease, self.faults, self.said = running, chance, lease, 0, {}
-        # Set by who has it work.
+        # Set by the trial.
         self.shards = 1
 
     def is_done(self, *words):
@@ -36,7 +36,7 @@ class Nemesis:
         return self.told(*words) == DONE
 
     def told(self, *words):
-        """What a server of chance says of the command: that it is done, the name of why not, or nothing."""
+        """Returns the answer of a random server to the command: done, the name of the refusal, or nothing."""
         try:
             with self.chance.choice(self.fleet.servers).client() as client:
                 client.socket.settimeout(LONG)
@@ -62,7 +62,7 @@ class Nemesis:
         self.count()
         self.pause(*AWAY)
         process.begin()
-        with contextlib.suppress(fleet.NotBegun):
+        with contextlib.suppress(local_processes.NotBegun):
             process.wait(process.is_up)
 
 
@@ -109,7 +109,7 @@ class Cut(Nemesis):
     """Cuts a server off from etcd, from some of its members, or from other servers; or a member from the others."""
 
     def links(self):
-        """Those of one cut."""
+        """Returns the links of one cut."""
         names = [*self.fleet.relays.links]
         server = self.chance.choice(self.fleet.servers)
         of_server = [it for it in names if it.endswith(f"from {server.name}")]
@@ -129,7 +129,7 @@ class Cut(Nemesis):
 
 
 class Delay(Nemesis):
-    """Delays what goes over some links."""
+    """Delays the bytes of some links."""
 
     def turn(self):
         names = [*self.fleet.relays.links]
@@ -155,7 +155,7 @@ class Full(Nemesis):
 
     def fill(self):
         """Whether etcd said that it has no more room."""
-        asked = {"key": fleet.text(JUNK), "value": fleet.text(bytes(PIECE))}
+        asked = {"key": local_processes.text(JUNK), "value": local_processes.text(bytes(PIECE))}
         for _ in range(4 * QUOTA // PIECE):
             with contextlib.suppress(OSError):
                 if "space exceeded" in str(self.fleet.ask("/v3/kv/put", asked).get("error", "")):
@@ -163,7 +163,7 @@ class Full(Nemesis):
         return False
 
     def make_room(self):
-        """What an operator does, until it is done."""
+        """Does the work of an operator, until it is done."""
         for _ in range(TRIES):
             server = self.chance.choice(self.fleet.servers)
             with contextlib.suppress(OSError, served.Refused), server.client() as client:
@@ -174,8 +174,8 @@ class Full(Nemesis):
 
 
 class Clock(Nemesis):
-    """Turns the time of day of servers, there and back. By what measures how long a lease lasts, in etcd's members, no
-    system turns anything."""
+    """Turns the time of day of servers, there and back. No system turns the clock by which etcd's members measure
+    leases."""
 
     def turn(self):
         self.turned(self.chance.choice(self.fleet.servers), self.chance.choice([-3_600, -60, -2, 2, 60, 3_600]))
@@ -199,16 +199,50 @@ class Reassign(Nemesis):
         self.pause(0.1, 0.6)
 
     def give(self, shard, server):
-        """Gives a shard that is paused, or may be, to the server, or else back to its owner; nobody else would."""
+        """Gives a shard that is paused, or may be, to the server, or otherwise back to its owner, because nobody else
+        would."""
         for _ in range(TRIES):
             if self.is_done("REASSIGN", shard, server.number) or self.told("RESUME", shard) in (DONE, NOT_PAUSED):
                 return
             time.sleep(0.5)
 
 
+class Resize(Nemesis):
+    """Adds a server, to which shards go, and removes it again, as an operator does."""
+
+    def __init__(self, *given):
+        super().__init__(*given)
+        # Begun anew in each turn.
+        self.joining = None
+
+    def turn(self):
+        count = len(self.fleet.servers)
+        self.joining = joining = self.joining or self.fleet.joining()
+        self.until_done("RESIZE", count + 1)
+        self.count()
+        joining.begin()
+        with contextlib.suppress(local_processes.NotBegun):
+            joining.wait(joining.is_up)
+        self.is_done("SPREAD")
+        self.pause(1, 3)
+        self.is_done("DRAIN", joining.number)
+        joining.stop()
+        self.until_done("RESIZE", count)
+        self.pause(1, 3)
+
+    def until_done(self, *words):
+        """Makes the command again until it is done."""
+        for _ in range(6 * TRIES):
+            told = self.told(*words)
+            if told == DONE:
+                return
+            time.sleep(0.5)
+        raise local_processes.NotBegun(f"SM {' '.join(map(str, words))} is answered by {told!r}")
+
+
 class Moves(Nemesis):
-    """Migrates shards, each at a server of chance, until it is told to stop; each turn is a graceful restart, after which
-    shards are spread over servers."""
+    """Migrates shards, each by a random server, until it must stop; each turn is a graceful restart, after which shards
+    are spread over servers."""
 
     def __init__(self, running, chance, lease):
         super().__init__(running, chance, lease)
@@ -224,11 +258,11 @@ class Moves(Nemesis):
     def turn(self):
         """Restarts a server as an upgrade does: it is drained, its process ends, and another one begins."""
         server = self.chance.choice(self.fleet.servers)
-        # Beside faults it may be stopped, and wait for its process, whatever was answered.
+        # Beside faults it may be stopped, and wait for its process, whatever the answers were.
         if self.is_done("RESTART", server.number) or self.has_faults:
             server.stop()
             server.begin()
-            with contextlib.suppress(fleet.NotBegun):
+            with contextlib.suppress(local_processes.NotBegun):
                 server.wait(server.is_up)
                 self.restarted += 1
         self.spread += self.is_done("SPREAD")
@@ -238,12 +272,12 @@ class Moves(Nemesis):
 KINDS = {
     "kill-server": KillServer, "kill-etcd": KillEtcd, "kill-leader": KillLeader, "stop-continue": StopContinue,
     "cut": Cut, "delay": Delay, "full": Full, "clock": Clock, "reassign": Reassign,
-    "moves": Moves,
+    "resize": Resize, "moves": Moves,
 }  # fmt: skip
 
 
 def lacking(kind):
-    """What a nemesis needs that isn't there, or none."""
+    """Returns the program that a nemesis needs and that isn't there, or none."""
     if kind == "clock" and not pathlib.Path(LIBFAKETIME).is_file():
         return "faketime isn't installed: no clock is turned; tools/setup installs it"
     if kind != "moves" and not shutil.which("etcd"):
@@ -252,7 +286,7 @@ def lacking(kind):
 
 
 def prepared(kinds, folder):
-    """What a fleet needs for these: options of etcd, and a server's environment by its number."""
+    """Returns the options of etcd for these nemeses, and a server's environment by its number."""
     options = ["--quota-backend-bytes", QUOTA] if "full" in kinds else []
 
     def env(number):
@@ -261,7 +295,7 @@ def prepared(kinds, folder):
         file = folder / f"clock-{number}"
         file.write_text("+0s\n")
         named = {"LD_PRELOAD": LIBFAKETIME, "FAKETIME_TIMESTAMP_FILE": str(file), "FAKETIME_NO_CACHE": "1"}
-        # What measures how long something takes isn't turned: no system turns that.
+        # The clock that measures durations isn't turned, because no system turns it.
         return {**named, "DONT_FAKE_MONOTONIC": "1", "FAKETIME_DONT_FAKE_MONOTONIC": "1"}
 
     return options, env

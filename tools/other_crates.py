@@ -1,9 +1,9 @@
-"""Other people's crates for what cargo builds here: Debian's packages if they have all that Cargo.lock names, which
-needs no network, and else crates.io's. tools/setup installs the packages.
+"""Other people's crates for the packages that cargo builds here: Debian's packages if they have all crates that
+Cargo.lock names, which needs no network, and otherwise the crates of crates.io. tools/setup installs the packages.
 
 Debian patches crates, and has other checksums of them than crates.io, or other words in their place; cargo refuses a
 checksum that isn't the lock's. So Cargo.lock has no checksum, and cargo reads copies of Debian's crates, in out/debian,
-that have none either. They are no links, because rt refuses each link below the top. crates.io tells cargo all
+that have none either. They aren't links, because rt refuses each link below the top. crates.io tells cargo all
 checksums, which cargo then adds to the lock, with crates that only other platforms need. A run with Debian's crates
 puts back the text that is committed."""
 import os
@@ -18,15 +18,15 @@ import telling
 
 TOP = pathlib.Path(__file__).resolve().parent.parent
 LOCK = TOP / "Cargo.lock"
-# Where Debian's packages put them, and where cargo reads them.
+# The folder of Debian's packages, and the folder from which cargo reads them.
 DEBIAN, COPIED = pathlib.Path("/usr/share/cargo/registry"), TOP / "out/debian"
-# Where a lock is kept that crates.io added to, once the committed text is put back.
+# The place of a lock to which crates.io added lines, once the committed text is put back.
 ADDED = TOP / "out/Cargo.lock"
-# Where cargo builds what is of the workspace.
+# The folder in which cargo builds the workspace.
 KEPT = TOP / "out/cargo"
-# How long cargo may build and test, in seconds, and the exit status of one that took longer, as of timeout(1).
+# How long cargo may build and test, in seconds, and the exit status if it took longer, as of timeout(1).
 SECONDS, ENDED = 2400, 124
-# What of cargo runs nothing of ours, and leaves processors to what is tried meanwhile.
+# Words of cargo that run no program of ours, and leave processors to other work.
 BUILDING = ("build", "check", "clippy")
 CHECKSUM, NONE = ".cargo-checksum.json", '{"package": null, "files": {}}\n'
 # A line that cargo adds to the lock by crates.io.
@@ -37,15 +37,15 @@ NAMED = "DURKENZO_LIB"
 
 
 def committed():
-    """Returns the lock's text that is committed; none if git doesn't tell."""
+    """Returns the text of the committed lock, or none if git doesn't know it."""
     words = ["git", "-C", str(TOP), "show", "HEAD:./Cargo.lock"]
     ran = subprocess.run(words, capture_output=True, encoding="utf-8") if shutil.which("git") else None
     return ran.stdout if ran and ran.returncode == 0 else None
 
 
 def lock():
-    """Returns the lock's text as it is before crates.io adds to it: the committed one if the file has checksums and the
-    committed one has none, and else the file's."""
+    """Returns the lock's text before crates.io added to it: the committed one if the file has checksums and the
+    committed one has none, and otherwise the file's."""
     text = LOCK.read_text("utf-8")
     before = committed() if SUMMED.search(text) else None
     return text if before is None or SUMMED.search(before) else before
@@ -101,9 +101,9 @@ def debian():
 
 
 def options():
-    """Returns what cargo is told of where the crates are, and where its own sources are."""
+    """Returns the options that tell cargo the places of the crates and of its own sources."""
     crates = ["--config", str(debian()), "--offline"] if is_debian() else []
-    # What is built tells the paths of its sources from the top on, and nothing of this machine.
+    # Built programs have the paths of their sources from the top on, and nothing of this machine.
     return [*crates, "--config", f'build.rustflags = ["--remap-path-prefix={TOP}=."]']
 
 
@@ -119,13 +119,13 @@ def environment(library=None, folder=None):
 
 
 def command(word, *words):
-    """Returns what runs this command of cargo with the crates that are there; to lay out files takes none."""
+    """Returns the command of cargo with this word and the crates that are there; to format files it needs none."""
     return ["cargo", word, *([] if word == "fmt" else options()), *words]
 
 
 def cargo(*words, library=None, folder=None):
-    """Runs cargo at the top, and returns the finished run. A run that takes too long has failed, and what it wrote
-    tells by which tests."""
+    """Runs cargo at the top, and returns the finished run. A run that takes too long has failed, and its output says in
+    which tests."""
     is_nice = words[0] in BUILDING or "--no-run" in words
     if words[0] == "test" and not is_nice:
         built = cargo("test", "--no-run", *words[1:], library=library, folder=folder)

@@ -1,16 +1,17 @@
-"""How far a run is: its phases, how long each took, and its end where one takes longer than it may."""
+"""Follows a run: its phases, how long each took, and its end if one takes longer than it may."""
 import faulthandler
 import os
 import sys
 import threading
 import time
 
-# How often it is told how far a phase is.
+# How often the progress of a phase is printed.
 EVERY = 30
 
 
 class Phases:
-    """The phases of a run, one after another. Where one takes too long the process ends, and with it what it began."""
+    """The phases of a run, one after another. If one takes too long, the process ends, and all processes that it began
+    end too."""
 
     def __init__(self):
         self.start, self.name, self.began, self.end, self.how_far = time.monotonic(), None, 0, 0, str
@@ -26,7 +27,7 @@ class Phases:
         self.thread.join()
 
     def begin(self, name, seconds, how_far=str):
-        """Has this phase begin, which may take so long; `how_far` says how far it is."""
+        """Begins this phase, which may take this long; `how_far` says how far it is."""
         now = time.monotonic()
         with self.lock:
             if self.name:
@@ -34,7 +35,7 @@ class Phases:
             self.name, self.began, self.end, self.how_far = name, now, now + seconds, how_far
 
     def look(self):
-        """Tells how far it is until the end."""
+        """Prints how far the phase is until the end."""
         told = self.start
         while not self.is_over.wait(1):
             now = time.monotonic()
@@ -47,7 +48,7 @@ class Phases:
                 print(f"trial: {now - self.start:.0f} s, {name}: {far}", file=sys.stderr, flush=True)
 
     def give_up(self, name, now):
-        """Ends the process, whatever it waits for; what it began ends with it."""
+        """Ends the process, whatever it waits for; all processes that it began end with it."""
         faulthandler.dump_traceback(all_threads=True)
         took = f"{now - self.began:.0f} s"
         print(f"trial: {name} took longer than it may, {took}: nothing from it on is decided", flush=True)

@@ -1,49 +1,55 @@
-"""Bugs between servers and etcd, which a trial has to find: a relay that changes what is asked or answered. It tells one
-server of changes late besides, as a network may: who compares nothing then acts on what is gone.
+"""Bugs between servers and etcd, which a trial must find: a relay that changes requests or answers. Besides, it tells
+one server of changes late, as a network may, so that a server that compares nothing acts on values that are gone.
 
-    no-compare     what makes requests of clients compares nothing
-    lost-is-made   what its compares had lost is told as made
-    no-read-back   what became of a transaction isn't known, which is told as made or not made, and nothing is read
-    stale-read     a server answers reads by what it holds, and nothing compares that this is the present
-    early-drop     the control takes for granted that all servers have read what it has
+    no-compare     transactions that make requests of clients compare nothing
+    lost-is-made   a transaction whose compares did not hold is reported as made
+    no-read-back   an unknown outcome of a transaction is reported as made or not made, and nothing is read
+    stale-read     a server answers reads by the values that it has, and nothing compares that they are the present
+    early-drop     the control assumes that all servers have read as far as it has
 """
 import asyncio
 import json
 import random
 
-import fleet
+import local_processes
 
 TXN, WATCH, RANGE = "/v3/kv/txn", "/v3/watch", "/v3/kv/range"
-# Which server is told of changes late, and how late.
+# The server that is told of changes late, and how late.
 SLOW, LATE = 1, 1.5
-# One in so many transactions has its outcome not be known.
+# One transaction in this many has an unknown outcome.
 UNKNOWN_IN = 100
 SERVER = b"server/"
-# Where a server's key tells up to which revision it has read.
+# The place in a server's key that says up to which revision the server has read.
 FOLLOWED = slice(9, 17)
+# A revision that etcd never reaches.
+LATEST = 1 << 40
 # How etcd says that it made nothing.
 FULL = "etcdserver: mvcc: database space exceeded"
 NOT_MADE = {"error": FULL, "code": 8, "message": FULL}
 
 
 class Bug:
-    """What a bug makes of calls and their answers; this one makes nothing of them. `options` are those of a trial that
-    shows it: where shards get other owners at once, the one before goes on until it is told."""
+    """How a bug changes calls and their answers; this one changes nothing. `options` are the options of a trial that
+    shows it: if shards get other owners at once, the owner before goes on until it is told."""
 
     options = {"nemesis": "reassign", "shards": 4, "keys": 8}
 
     def asked(self, path, asked):
-        """What etcd gets in the place of this, or none where it gets nothing."""
+        """Returns the call that etcd gets in place of this one, or none if it gets nothing."""
         return asked
 
     def answered(self, path, asked, answer):
-        """What is told in the place of this answer; of what etcd didn't get there is none."""
+        """Returns the answer in place of this one; there is none to a call that etcd didn't get."""
         return answer
+
+    def read(self, pair):
+        """Returns the pair of key and value that a watch tells in place of this one."""
+        return pair
 
 
 class NoCompare(Bug):
     def asked(self, path, asked):
-        compared = (fleet.bytes_of(it["key"]) for it in asked.get("compare", []))
+        compared = (local_processes.bytes_of(it["key"]) for it in asked.get("compare", []))
         is_of_requests = path == TXN and any(it.startswith(b"head/") for it in compared)
         return {**asked, "compare": []} if is_of_requests else asked
 
@@ -57,7 +63,8 @@ class LostIsMade(Bug):
 
 
 class NoReadBack(Bug):
-    """Its outcomes are unknown by chance: each other one is lost on its way, and each other one's answer is."""
+    """Its outcomes are unknown by chance: half of them because the transaction is lost on its way, and half because the
+    answer is."""
 
     options = {"nemesis": "moves"}
 
@@ -78,7 +85,7 @@ class NoReadBack(Bug):
 
 
 class StaleRead(Bug):
-    # A write at the server that is late would tell it so: those who call it read.
+    # A write at the server that is late would tell it so: so those who call it only read.
     options = {**Bug.options, "shards": 2, "keys": 4, "followers": 0, "numbered": 0, "readers": 4}
 
     def answered(self, path, asked, answer):
@@ -91,28 +98,29 @@ class EarlyDrop(Bug):
     options = {"nemesis": "moves"}
 
     def answered(self, path, asked, answer):
-        is_of_servers = path == RANGE and fleet.bytes_of(asked.get("key")).startswith(SERVER)
-        if is_of_servers and answer.get("kvs"):
-            read = int(answer["header"]["revision"])
-            return {**answer, "kvs": [{**it, "value": read_up_to(it["value"], read)} for it in answer["kvs"]]}
-        return answer
+        return {**answer, "kvs": [*map(self.read, answer["kvs"])]} if path == RANGE and answer.get("kvs") else answer
+
+    def read(self, pair):
+        is_there = local_processes.bytes_of(pair["key"]).startswith(SERVER) and "value" in pair
+        return {**pair, "value": read_up_to(pair["value"], LATEST)} if is_there else pair
 
 
 def writes_requests(asked):
     """Whether this transaction writes requests of clients."""
-    keys = (fleet.bytes_of(it["request_put"]["key"]) for it in asked.get("success", []) if "request_put" in it)
+    puts = (it["request_put"] for it in asked.get("success", []) if "request_put" in it)
+    keys = (local_processes.bytes_of(it["key"]) for it in puts)
     return any(it.startswith(b"head/") for it in keys)
 
 
 def made(header):
-    """How etcd says that it made what writes."""
+    """Returns etcd's answer that it made the writes."""
     return {"header": header, "succeeded": True, "responses": [{"response_put": {"header": header}}]}
 
 
 def read_up_to(value, revision):
-    """What lies at a server's key, as if it had read up to this revision."""
-    held = fleet.bytes_of(value)
-    return fleet.text(held[: FOLLOWED.start] + revision.to_bytes(8, "big") + held[FOLLOWED.stop :])
+    """Returns the value at a server's key, as if it had read up to this revision."""
+    held = local_processes.bytes_of(value)
+    return local_processes.text(held[: FOLLOWED.start] + revision.to_bytes(8, "big") + held[FOLLOWED.stop :])
 
 
 BUGS = {
@@ -141,8 +149,8 @@ class Planted:
 
 
 class Rewrite:
-    """Carries calls of etcd's gateway one after another, and changes transactions and readings; it tells of changes so
-    late."""
+    """Carries calls of etcd's gateway one after another, and changes transactions and readings. It tells of changes
+    this late."""
 
     def __init__(self, bug, late):
         self.bug, self.late, self.acts = bug, late, 0
@@ -154,10 +162,11 @@ class Rewrite:
                 await self.change(path, (head, json.loads(body)), writer, (far_reader, far_writer))
             else:
                 await send(far_writer, head, body)
-                await carried(far_reader, writer, self.late if path == WATCH else 0)
+                how = (self.late, self.watched) if path == WATCH else (0, lambda line: line + b"\n")
+                await carried(far_reader, writer, *how)
 
     async def change(self, path, call, writer, far):
-        """Has etcd be asked what the bug makes of this call, and tells what it makes of the answer."""
+        """Passes the call on to etcd as the bug changes it, and returns the answer as the bug changes it."""
         (head, asked), (far_reader, far_writer) = call, far
         given = self.bug.asked(path, asked)
         answer = None
@@ -171,6 +180,16 @@ class Rewrite:
         self.acts += given != asked or told != answer
         await send(writer, REFUSED if told is NOT_MADE else head, json.dumps(told).encode())
 
+    def watched(self, line):
+        """Returns this line of a watch as the bug changes it."""
+        told = json.loads(line)
+        before = json.dumps(told)
+        for event in told.get("result", {}).get("events", []):
+            event["kv"] = self.bug.read(event["kv"])
+        after = json.dumps(told)
+        self.acts += after != before
+        return after.encode() + b"\n"
+
 
 # The heads of answers that etcd didn't give.
 ANSWERED = [b"HTTP/1.1 200 OK", b"Content-Type: application/json"]
@@ -178,7 +197,7 @@ REFUSED = [b"HTTP/1.1 429 Too Many Requests", b"Content-Type: application/json"]
 
 
 async def head_of(reader):
-    """The lines of a head, and what they say of the body's length; none where it comes in chunks."""
+    """Returns the lines of a head, and the length of the body that they state, or none if the body comes in chunks."""
     lines = (await reader.readuntil(b"\r\n\r\n")).split(b"\r\n")[:-2]
     fields = {name.strip().lower(): value.strip() for name, _, value in (it.partition(b":") for it in lines[1:])}
     length = None if fields.get(b"transfer-encoding") == b"chunked" else int(fields.get(b"content-length", 0))
@@ -186,7 +205,7 @@ async def head_of(reader):
 
 
 async def chunk(reader):
-    """One chunk; none at the end."""
+    """Returns one chunk, or none at the end."""
     length = int((await reader.readline()).split(b";")[0], 16)
     data = await reader.readexactly(length)
     await reader.readexactly(2)
@@ -194,7 +213,7 @@ async def chunk(reader):
 
 
 async def whole(reader):
-    """A message: its path, where it is a request, its head, and its body."""
+    """Returns a message: its path, if it is a request, its head, and its body."""
     lines, length = await head_of(reader)
     if length is None:
         body = b""
@@ -206,20 +225,20 @@ async def whole(reader):
 
 
 async def send(writer, lines, body):
-    """Sends a message, whose body may be of another length than its head says."""
+    """Sends a message. Its body may have another length than its head says."""
     kept = [it for it in lines if not it.lower().startswith((b"content-length", b"transfer-encoding"))]
     writer.write(b"\r\n".join([*kept, b"Content-Length: %d" % len(body), b"", b""]) + body)
     await writer.drain()
 
 
-async def carried(reader, writer, late):
-    """Carries an answer, each piece so late, which may be a stream that doesn't end."""
+async def carried(reader, writer, late, change):
+    """Carries an answer, which may be a stream of lines that doesn't end: each of its lines so late, and changed."""
     lines, length = await head_of(reader)
     writer.write(b"\r\n".join([*lines, b"", b""]))
     if length is not None:
         writer.write(await reader.readexactly(length))
         return await writer.drain()
-    pieces, loop = asyncio.Queue(1_024), asyncio.get_running_loop()
+    pieces, loop, begun = asyncio.Queue(1_024), asyncio.get_running_loop(), b""
 
     async def give():
         while True:
@@ -233,7 +252,9 @@ async def carried(reader, writer, late):
     giving = asyncio.ensure_future(give())
     try:
         while piece := await chunk(reader):
-            await pieces.put((loop.time() + late, piece))
+            *lines, begun = (begun + piece).split(b"\n")
+            for line in lines:
+                await pieces.put((loop.time() + late, change(line)))
         await pieces.put((0, b""))
         await giving
     finally:

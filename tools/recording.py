@@ -1,5 +1,5 @@
-"""What etcd is told of shards' records through a run, change by change, and whether the proved rule makes these; and of
-servers, whether each had read that a shard is taken before it was dropped."""
+"""Records which values etcd had of shards' records during a run, change by change, and checks that the proved rule
+makes these changes. Of servers, it checks that each had read that a shard is taken before it was dropped."""
 import collections
 import contextlib
 import http.client
@@ -8,18 +8,18 @@ import subprocess
 import threading
 import time
 
-import fleet
+import local_processes
 import other_crates
 import runs
 
 # All records, then all servers that are there: no other keys lie between.
 RECORD, SERVER = b"record/", b"server/"
 END, RECORDS_END = b"server0", b"record0"
-# How long nothing may be told before another member is asked: it may be stopped.
+# How long nothing may come before another member is asked: the member may be stopped.
 SECONDS = 2
 # How long the replay may take.
 REPLAY = 200
-# Where the numbers of a record and of a server stand, behind the version and what comes first.
+# The places of the numbers of a record and of a server, behind the version and the first fields.
 WORD, FOLLOWED = slice(1, 9), slice(9, 17)
 # The phase of a record whose shard has a new owner, to which the one before forwards yet.
 TAKEN, PHASE = 4, 61
@@ -27,8 +27,8 @@ STANDS = ("Vacant", "Serving", "Prepared", "Forwarding", "Taken", "Paused", "-",
 
 
 class Told(collections.namedtuple("Told", "revision key value created version at")):
-    """A change of a key, whose value is none where it was deleted, its number among those of the key, and when it was
-    told; the key is none where changes may be missing."""
+    """A change of a key: its value, or none if it was deleted, its number among those of the key, and when it came. The
+    key is none if changes may be missing."""
 
     def is_record(self):
         return self.key is not None and self.key.startswith(RECORD)
@@ -67,16 +67,17 @@ class Recorder:
             if self.is_over.is_set():
                 return
             member = self.fleet.members[turn % len(self.fleet.members)]
-            # Whatever a member that dies leaves half said, the next one says it anew.
+            # If a member dies in the middle of a message, the next one sends it again.
             with contextlib.suppress(OSError, ValueError, KeyError, http.client.HTTPException):
                 self.follow(member)
             self.is_over.wait(0.1)
 
     def follow(self, member):
-        """Takes changes as this member tells them, until it doesn't."""
-        connection = http.client.HTTPConnection(fleet.HOST, member.port, timeout=SECONDS)
+        """Takes changes from this member, until it sends no more."""
+        connection = http.client.HTTPConnection(local_processes.HOST, member.port, timeout=SECONDS)
         with contextlib.closing(connection):
-            asked = {"key": fleet.text(RECORD), "range_end": fleet.text(END), "start_revision": str(self.next)}
+            asked = {"key": local_processes.text(RECORD), "range_end": local_processes.text(END)}
+            asked["start_revision"] = str(self.next)
             connection.request("POST", "/v3/watch", json.dumps({"create_request": asked}))
             answer = connection.getresponse()
             while line := answer.readline():
@@ -86,14 +87,14 @@ class Recorder:
 
     def take(self, told):
         if told.get("canceled"):
-            # What is before that revision was compacted before it was told: most often of other keys alone.
+            # Changes before that revision were compacted before they came: most often only changes of other keys.
             self.next = max(self.next, int(told.get("compact_revision", 0)))
             self.told.append(Told(self.next, None, None, 0, 0, time.monotonic() - self.start))
         for event in told.get("events", []):
             pair = event["kv"]
-            revision, key = int(pair["mod_revision"]), fleet.bytes_of(pair["key"])
+            revision, key = int(pair["mod_revision"]), local_processes.bytes_of(pair["key"])
             if revision >= self.next:
-                value = None if event.get("type") == "DELETE" else fleet.bytes_of(pair.get("value"))
+                value = None if event.get("type") == "DELETE" else local_processes.bytes_of(pair.get("value"))
                 created, version = (int(pair.get(it, 0)) for it in ("create_revision", "version"))
                 self.told.append(Told(revision, key, value, created, version, time.monotonic() - self.start))
         if told.get("events"):
@@ -104,12 +105,13 @@ class Recorder:
         return [it for it in self.told if it.is_record()]
 
     def missing(self):
-        """How many changes of records were compacted before they were told."""
-        made = {fleet.bytes_of(it["key"]): int(it["version"]) for it in self.pairs()}
+        """Returns how many changes of records were compacted before they came."""
+        made = {local_processes.bytes_of(it["key"]): int(it["version"]) for it in self.pairs()}
         return sum(made.values()) - len({(it.key, it.version) for it in self.changes()})
 
     def pairs(self):
-        found = self.fleet.ask("/v3/kv/range", {"key": fleet.text(RECORD), "range_end": fleet.text(RECORDS_END)})
+        asked = {"key": local_processes.text(RECORD), "range_end": local_processes.text(RECORDS_END)}
+        found = self.fleet.ask("/v3/kv/range", asked)
         return found.get("kvs", [])
 
     def last(self):
@@ -127,8 +129,8 @@ class Recorder:
 
 
 def replayed(changes, program):
-    """What the replay says of these changes, and whether the rule makes them. One behind others that weren't told is
-    told to be where its record begins anew."""
+    """Returns the output of the replay of these changes, and whether the rule makes them. If changes before a change
+    are missing, its record begins anew there."""
     versions, lines = {}, ""
     for it in changes:
         behind = " anew" if it.version > versions.get(it.key, 0) + 1 else ""
@@ -142,7 +144,8 @@ def replayed(changes, program):
 
 
 def dropped_early(told):
-    """Says of each shard that was dropped before a server had read that it is taken, whose key was there since then."""
+    """Returns a sentence for each shard that was dropped before a server, whose key was there, had read that it is
+    taken."""
     records, servers, said = {}, {}, []
     for it in told:
         if it.key is None:
@@ -166,9 +169,9 @@ def is_behind(server, revision):
 
 
 def program():
-    """The example of the library that replays changes, built over whatever library there is."""
+    """Builds the example of the library that replays changes, over the library that there is."""
     words = ["build", "--release", "-p", "durkenzo", "--example", "replay"]
     ran = other_crates.cargo(*words, library=runs.loaded("serve").any_library())
     if ran.returncode:
-        raise fleet.NotBegun(f"cargo build of the replay ended with {ran.returncode}\n{ran.stderr[-2000:]}")
+        raise local_processes.NotBegun(f"cargo build of the replay ended with {ran.returncode}\n{ran.stderr[-2000:]}")
     return other_crates.target() / "release/examples/replay"

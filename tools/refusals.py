@@ -1,7 +1,7 @@
-"""Why calls, lines and commands are refused, and what to do about it: library/refusals.txt, read.
+"""Reads library/refusals.txt: why calls, lines and commands are refused, and advice about it.
 
     REFUSALS, SETTINGS      the rows by their names, of refusals and of faults of settings
-    PHASES                  what to do about WrongPhase, by the shard's stand or by the word of the line
+    PHASES                  the advice about WrongPhase, by the shard's stand or by the word of the line
     rows(PATH)              the rows of such a table by their part, each cut into its cells
 """
 import collections
@@ -9,8 +9,8 @@ import collections
 import sources
 
 PATH = sources.TOP / "library/refusals.txt"
-# A name, its sentence, what `--explain` says of it (nothing where the program makes that), what to do in a script, and
-# what to do with SM.
+# A name, its sentence, the text of `--explain` (nothing if the program makes it), the advice in a script, and the
+# advice with SM.
 Refusal = collections.namedtuple("Refusal", "name sentence explained to_do by_sm")
 
 
@@ -26,7 +26,7 @@ def rows(path):
 
 
 def refusal(name, sentence, explained, to_do, by_sm=""):
-    """Returns the row of these cells: what isn't explained otherwise is explained by the sentence."""
+    """Returns the row of these cells. If no other explanation is given, the sentence explains it."""
     return Refusal(name, sentence, "" if explained == "-" else explained or sentence, to_do, by_sm)
 
 

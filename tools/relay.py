@@ -1,7 +1,9 @@
-"""Relays between processes of a cluster, which cut and delay what goes through them, each at a port of its own.
+"""Relays between processes of a cluster, which cut and delay the bytes that go through them. Each has a port of its
+own.
 
-A link that is cut holds what comes until it is healed, as a network does that loses packets which are sent again. A
-delayed one gives each piece on after a while. If a link speaks HTTP, `rewrite` may change what is asked and answered.
+A link that is cut holds all bytes until it is healed, because a network that loses packets does the same: they are sent
+again. A delayed link passes each piece on after a while. If a link speaks HTTP, `rewrite` may change requests and
+answers.
 """
 import asyncio
 import contextlib
@@ -12,13 +14,13 @@ PIECE = 1 << 16
 
 
 class Link:
-    """What goes to one port through this relay."""
+    """The bytes that go to one port through this relay."""
 
     def __init__(self, name, port):
         self.name, self.target, self.port = name, port, 0
         self.delay, self.healed, self.rewrite = 0.0, asyncio.Event(), None
         self.healed.set()
-        # What goes to the port, and what comes from there, may be cut alone.
+        # Each way may be cut alone: the bytes to the port, and the bytes from there.
         self.ways = asyncio.Event(), asyncio.Event()
         for it in self.ways:
             it.set()
@@ -47,8 +49,8 @@ class Link:
             giving.cancel()
 
     async def connected(self, reader, writer):
-        """Carries both ways between who called and the port behind."""
-        # At the end of the relays what is carried is cancelled, of which nobody has to be told.
+        """Carries both ways between the caller and the port behind."""
+        # At the end of the relays all carrying is cancelled, and nobody must be told of that.
         with contextlib.suppress(OSError, asyncio.IncompleteReadError, ValueError, asyncio.CancelledError):
             await self.healed.wait()
             far_reader, far_writer = await asyncio.open_connection(HOST, self.target)
@@ -67,7 +69,7 @@ class Link:
 
 
 class Relays:
-    """All links of a run, on a thread of their own. `rewriting` gives a link's rewrite by its name, or none."""
+    """All links of a run, on a thread of their own. `rewriting` returns a link's rewrite by its name, or none."""
 
     def __init__(self, rewriting=lambda name: None):
         self.loop, self.links, self.rewriting = asyncio.new_event_loop(), {}, rewriting
@@ -106,7 +108,7 @@ class Relays:
         return link.port
 
     def cut(self, name, way=None):
-        """Cuts a link, or only what goes to its port (0) or what comes from there (1)."""
+        """Cuts a link, or only the bytes to its port (0) or from there (1)."""
         link = self.links[name]
         self.loop.call_soon_threadsafe((link.healed if way is None else link.ways[way]).clear)
 
@@ -114,7 +116,7 @@ class Relays:
         self.links[name].delay = seconds
 
     def heal(self):
-        """Has all links carry again, at once."""
+        """Makes all links carry again, at once."""
         for it in self.links.values():
             it.delay = 0.0
             for cut in (it.healed, *it.ways):

@@ -1,4 +1,4 @@
-"""How the tools of this folder run the program: by itself, and with memory or streams that fail (tools/faults.c)."""
+"""How the tools of this folder run the program: normally, and with memory or streams that fail (tools/faults.c)."""
 import importlib.machinery
 import importlib.util
 import os
@@ -12,11 +12,11 @@ import limited
 TOP = pathlib.Path(__file__).resolve().parent.parent
 PROGRAM = str(TOP / "crates" / "sm_cli" / "out" / "sm_cli")
 EXAMPLES = sorted((TOP / "examples").glob("*.in"))
-# Those with lines that run on threads alone.
+# The examples with lines that run only on threads.
 THREADS_EXAMPLES = sorted((TOP / "examples" / "threads").glob("*.in"))
 
 SECONDS = 600
-# What a run left: its exit status, what it wrote, and whether it met the failure that it was asked to meet.
+# The results of a run: its exit status, its output, and whether it met the failure that it must meet.
 Run = namedtuple("Run", "status output complaint has_failed")
 
 
@@ -26,7 +26,8 @@ def examples_of(engine):
 
 
 def finished(command, seconds=SECONDS, **how):
-    """Runs a command to its end; one that takes too long has no status, and is ended with all that it began."""
+    """Runs a command to its end. A command that takes too long has no status, and is ended with all processes that it
+    began."""
     try:
         run = limited.run(command, seconds, **how)
     except subprocess.TimeoutExpired as late:
@@ -75,7 +76,7 @@ def is_same(run, other):
 
 
 def is_front_in_lines(output, whole):
-    """Tells whether the output is the first lines of the whole one."""
+    """Returns whether the output is the first lines of the whole one."""
     return whole.startswith(output) and (not output or output.endswith(b"\n"))
 
 

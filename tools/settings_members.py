@@ -1,5 +1,5 @@
-"""The members of settings, as docs/SETTINGS.md has them: tools/settings, tools/check, tools/malformed and
-tools/explanations know of them by this list alone.
+"""The members of settings, as in docs/SETTINGS.md: tools/settings, tools/check, tools/malformed and tools/explanations
+know them only from this list.
 
     MEMBERS      all, in the order in which they are judged
     VERSIONS     the numbers of versions
@@ -10,9 +10,8 @@ import collections
 MAX_32 = (1 << 32) - 1
 
 # Members beside `version`, each with the first version that has it. A line whose member breaks a rule is answered by
-# `error`. Texts are 1 to `most`, of at most so many bytes. Rows have
-# numbers alone, within the ranges of `row`, and are 1 to `most`. A number has a range, what tools/settings writes where
-# nothing is said, or None where it makes one up, and what its help says.
+# `error`. Texts are 1 to `most`, of at most this many bytes. Rows have only numbers, within the ranges of `row`, and
+# are 1 to `most`. A number has a range, its default in tools/settings, or None if that makes one up, and its help.
 Texts = collections.namedtuple("Texts", "name since error most bytes")
 Rows = collections.namedtuple("Rows", "name since error most row")
 Number = collections.namedtuple("Number", "name since error low high default told")

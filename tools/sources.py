@@ -24,7 +24,7 @@ ITEM = re.compile(r"^(?:(?:pub|abbrev|unfoldable|opaque|data|record)\s+)*([^\s:(
 # A function of Rust: its file, the first line of its impl or trait (none: no such block), the type or the trait of that,
 # its name, the lines of its docs, its whole head, the text of its clauses, and its lines of both as they stand.
 Function = namedtuple("Function", "file block owner name docs head clauses lines")
-# Where an imported name stands: the crate, the module below specs/ and the name there (none: the module itself).
+# The origin of an imported name: the crate, the module below specs/ and the name there (none: the module itself).
 Origin = namedtuple("Origin", "crate module name")
 
 

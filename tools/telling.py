@@ -1,5 +1,5 @@
-"""Says on standard error what goes on for long: on a terminal each second in one line, and else a line each half a
-minute."""
+"""Says on standard error which long work goes on: on a terminal each second in one line, and elsewhere in a line each
+half minute."""
 import contextlib
 import fcntl
 import sys
@@ -12,7 +12,7 @@ OFTEN, SELDOM = 1, 30
 
 @contextlib.contextmanager
 def told(what, going_on):
-    """Says what has begun, and then, until the body ends, what goes on and for how long."""
+    """Says which work has begun, and then, until the body ends, which work goes on and for how long."""
     is_over, began = threading.Event(), time.monotonic()
     pause, head, tail = (OFTEN, "\r", " ") if sys.stderr.isatty() else (SELDOM, "", "\n")
 
@@ -35,7 +35,7 @@ def told(what, going_on):
 
 @contextlib.contextmanager
 def alone(folder):
-    """Has nobody else build in the folder while the body runs: who comes later waits, and says so."""
+    """Keeps others from building in the folder while the body runs: a later process waits, and says so."""
     with open(folder / ".lock", "w", encoding="utf-8") as lock:
         try:
             fcntl.flock(lock, fcntl.LOCK_EX | fcntl.LOCK_NB)

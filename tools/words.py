@@ -1,14 +1,14 @@
-"""What the words of scripts and the names of answers mean: tools/help, tools/shell and tools/check tell it.
+"""The meanings of the words of scripts and of the names of answers, for tools/help, tools/shell and tools/check.
 
-How each word is written is read from docs/SCRIPT.md, where the program prints it (tools/doc-forms). Why a line is
-refused, and what to do about it, is read from library/refusals.txt. So each stands in one place.
+The spelling of each word is read from docs/SCRIPT.md, where the program prints it (tools/doc-forms). Why a line is
+refused, and the advice about it, is read from library/refusals.txt. So each is in only one place.
 
-    help_lines(WORD)        what the program's help says of a word, or None
+    help_lines(WORD)        the lines of the program's help about a word, or None
     meaning_of(NAME)        why a line or settings are answered by this name, or None
-    to_do(NAME, VALUES)     what to do about it, or None; VALUES has K, A and N, and KEY, where they are known; of
+    to_do(NAME, VALUES)     the advice about it, or None; VALUES has K, A and N, and KEY, if they are known; of
                             WrongPhase also by the shard's stand and the word of the line
-    server_told(NAME)       what the server answers by this name, or does for this word of SM
-    fault_in(LINE)          what is wrong with a line: its name and a sentence with the word or the number; or None
+    server_told(NAME)       the meaning of this name of the server's, or of this word of SM
+    fault_in(LINE)          the fault of a line: its name and a sentence with the word or the number; or None
 """
 import collections
 import difflib
@@ -28,7 +28,7 @@ WORDS = sorted(it.decode() for it in ALL)
 SHELL_WORDS = ["help", "shards", "migrate", "place!", "drain!", "restart", "sent", "save", "quit"]
 # An entry of the server's tables of words and of names, and a row of the errors that it has beside Redis'.
 SERVER_ENTRY = re.compile(r'\(\s*"([^"]+)",\s*"([^"]*)"(?:,\s*"([^"]*)")?,?\s*(?:\)|[A-Z])')
-# Where the server's tables are.
+# The files of the server's tables.
 SERVER_TABLES = {"WORDS": "word_table.rs", "NAMES": "refusal_names.rs"}
 ERROR_ROW = re.compile(r"(?m)^\| ((?:`[A-Z]+`(?:, )?)+) \| (.*) \|$")
 WIDTH = 17
@@ -60,7 +60,7 @@ def help_lines(word):
 
 
 def form_told(word):
-    """What is said where too few or too many words follow this one."""
+    """Returns the message if too few or too many words follow this one."""
     return f"too few or too many words: {forms.written(FORM[word.decode()])}"
 
 
@@ -70,7 +70,7 @@ def meaning_of(name):
 
 
 def server_table(name):
-    """Returns a table of the server's: what stands behind each word, or each name."""
+    """Returns a table of the server's: the cells behind each word, or each name."""
     text = (runs.TOP / "control/src/control" / SERVER_TABLES[name]).read_text(encoding="utf-8")
     rows = re.sub(r"\\\n\s*", "", text.partition(f"const {name}:")[2].partition("\n];")[0])
     return {it[0]: [some for some in it[1:] if some] for it in SERVER_ENTRY.findall(rows)}
@@ -83,7 +83,7 @@ def server_errors():
 
 
 def server_told(name):
-    """Yields what the server has of this name: a word of SM, a refusal of its control, or an error."""
+    """Yields the server's texts for this name: a word of SM, a refusal of its control, or an error."""
     for form, (does,) in server_table("WORDS").items():
         if form.split(" ")[0] == name.upper():
             yield f"A word of ./sm serve:\n  SM {form}: {does}"
@@ -109,7 +109,7 @@ def to_do(name, values=(), stand="", word=""):
 
 
 def shown(text):
-    """Text without what a terminal would obey: each other byte is told by its number."""
+    """Returns the text without signs that a terminal would obey: each of those bytes is shown as its number."""
     if isinstance(text, bytes):
         text = text.decode(errors="surrogateescape")
     return "".join(
@@ -119,7 +119,7 @@ def shown(text):
 
 
 def unknown_told(word, words):
-    """What is said of a word that none of these is."""
+    """Returns the message about a word that is none of these."""
     text = shown(word[:40])
     if not word:
         return "a word is empty: one space stands between two words, and none before the first"
@@ -138,7 +138,7 @@ def number_told(name, word, kind):
 
 
 def value_told(name, word, kind):
-    """What is wrong with a word that is to be of this kind, or None."""
+    """Returns the fault in a word that must be of this kind, or None."""
     try:
         SCRIPTS.value_of(word, kind)
     except SCRIPTS.LineError as fault:
@@ -149,7 +149,7 @@ def value_told(name, word, kind):
 
 
 def values_told(word, rest):
-    """What is wrong with the first of the words behind this one that isn't as it has to be."""
+    """Returns the fault in the first of the words behind this one that isn't right, or None."""
     names = FORM[word.decode()].arguments.split()
     kinds = ALL[word]
     told = map(value_told, names, SCRIPTS.words_of(rest, kinds), kinds)
@@ -157,7 +157,7 @@ def values_told(word, rest):
 
 
 def told_in_request(line, name):
-    """What is wrong with a line of `at` or `client`, once it has words enough."""
+    """Returns the fault of a line of `at` or `client`, once it has enough words."""
     word, _, rest = line.partition(b" ")
     server, _, request = rest.partition(b" ") if word == b"at" else (None, None, rest)
     asked, blank, after = request.partition(b" ")
@@ -184,7 +184,7 @@ def told_of(line, name):
 
 
 def fault_in(line):
-    """Returns the name of what is wrong with a line, as a run answers it, and a sentence; or None."""
+    """Returns the name of a line's fault, as a run answers it, and a sentence; or None."""
     if not line or line.startswith(b"#"):
         return None
     if len(line) > SCRIPTS.MAX_LINE:

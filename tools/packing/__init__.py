@@ -1,1 +1,2 @@
-"""The parts of ./dist: what is packed, the pages and completions that are made for it, and its archives."""
+"""The parts of ./dist: the files that are packed, the pages and completions that are made for them, and the
+archives."""

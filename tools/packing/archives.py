@@ -1,11 +1,12 @@
-"""Archives that are the same bytes whenever they are made of the same files: sorted, of root, and of one time."""
+"""Archives that have the same bytes whenever they are made of the same files: sorted, owned by root, and of one
+time."""
 import gzip
 import io
 import tarfile
 
 
 def zipped(data, epoch, level=9):
-    """The bytes as gzip, which tells this time and no name."""
+    """Returns the bytes as gzip, with this time and no name."""
     made = io.BytesIO()
     with gzip.GzipFile(fileobj=made, mode="wb", compresslevel=level, filename="", mtime=epoch) as stream:
         stream.write(data)
@@ -13,7 +14,7 @@ def zipped(data, epoch, level=9):
 
 
 def folders_of(names):
-    """The folders of these files, each before what is in it."""
+    """Returns the folders of these files, each before the files in it."""
     found = set()
     for name in names:
         parts = name.split("/")[:-1]

@@ -1,7 +1,7 @@
-"""Completions for bash, zsh and fish, of what a program says of itself."""
+"""Completions for bash, zsh and fish, made from a program's --help."""
 import shlex
 
-# What is completed for an option that takes this: files, folders, or nothing.
+# The completions of an option that takes this: files, folders, or nothing.
 FILE, FOLDER = "FILE", "FOLDER"
 
 
@@ -71,14 +71,14 @@ def bash(told):
 
 
 def zsh_text(text):
-    """The text as it stands in quotes, and between what _arguments and _describe take for signs."""
+    """Returns the text in quotes, with the signs of _arguments and _describe escaped."""
     for sign in "\\[]:":
         text = text.replace(sign, f"\\{sign}")
     return text.replace("'", "'\\''")
 
 
 def zsh_specs(options):
-    """What _arguments takes of each option, and of each spelling of it."""
+    """Returns the words of _arguments for each option, and for each spelling of it."""
     for it in options:
         words = f"({joined(it.choices)})" if it.choices else " "
         action = {FILE: "_files", FOLDER: "_files -/"}.get(it.takes, words)

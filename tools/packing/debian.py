@@ -60,7 +60,7 @@ fi
 """
 SCRIPTS = {"prerm": STOP, "postinst": RELOAD, "postrm": RELOAD}
 UNITS = ("server/durkenzo.service.in", "deploy/durkenzo-cluster.service.in", "deploy/durkenzo-etcd.service")
-# What an administrator writes, which an upgrade leaves alone; addresses and passwords are for root.
+# The files that an administrator writes, which an upgrade leaves alone; addresses and passwords are only for root.
 SETTINGS = {"deploy/etcd.env": 0o600, "deploy/server.env": 0o600, "deploy/tls.conf.in": 0o644}
 OVERRIDES = "usr/share/lintian/overrides/durkenzo"
 
@@ -74,7 +74,7 @@ def copyright_of():
 
 
 def owner_of(path):
-    """The package that has this library, which may stand below /usr there."""
+    """Returns the package that has this library, which may be below /usr there."""
     for name in (path, f"/usr{path}"):
         ran = subprocess.run(["dpkg-query", "-S", name], capture_output=True, text=True)
         if not ran.returncode:
@@ -102,7 +102,8 @@ def put_into(folder, modes):
 
 
 def units():
-    """The units of systemd, and the settings of a cluster's, of which lintian may know that some are for root alone."""
+    """Returns the units of systemd, and the settings of a cluster's units. lintian is told that some are only for
+    root."""
     found = put_into("lib/systemd/system", dict.fromkeys(UNITS, 0o644))
     settings = put_into("etc/durkenzo", SETTINGS)
     lines = [

@@ -1,4 +1,4 @@
-"""What is packed: programs and libraries that were proved, or, where that is asked for, those built without proof."""
+"""The packed programs and libraries: proved ones, or, if that is asked for, ones that were built without proof."""
 import pathlib
 import shutil
 import tempfile
@@ -11,20 +11,20 @@ import runs
 TOP = runs.TOP
 CRATES = TOP / "crates"
 PROGRAM = "sm_cli"
-# The library of a store's servers, whose headers are packed where it is.
+# The library of a store's servers, whose headers are packed if it is there.
 STORE = "libsm_driver.a"
 VERSION = (TOP / "VERSION").read_text(encoding="utf-8").strip()
-# What a version ends with where something wasn't proved: in each name, and in what the programs say.
+# The end of a version if a part wasn't proved: in each name, and in the output of the programs.
 UNPROVED = "+unproved"
 
 
 class NotMade(Exception):
-    """Something that is to be packed isn't there, for want of what this says."""
+    """A file that must be packed isn't there, because this is missing."""
 
 
 @dataclass(frozen=True)
 class Made:
-    """What is packed: a program, the folder of the static libraries, and the server, all of one version."""
+    """The files that are packed: a program, the folder of the static libraries, and the server, all of one version."""
 
     version: str
     program: pathlib.Path
@@ -33,7 +33,7 @@ class Made:
 
 
 def newer(crate, built):
-    """A source of the crate, or of one below it, that is newer than what was built of it; or None."""
+    """Returns a source of the crate, or of one below it, that is newer than the built file, or None."""
     if not built.is_file():
         return built
     at = built.stat().st_mtime
@@ -63,14 +63,15 @@ def server_over(libraries=None):
 
 
 def proved_files():
-    """What the proofs leave that is packed: the program and the static libraries, each by its crate and its name."""
+    """Returns the results of the proofs that are packed: the program and the static libraries, each by its crate and
+    its name."""
     lines = (TOP / "crates.txt").read_text(encoding="utf-8").splitlines()
     crates = [it.split()[0] for it in lines if "staticlib" in it.partition(":")[0].split()[1:]]
     return [(PROGRAM, PROGRAM), *((it, f"lib{it}.a") for it in crates)]
 
 
 def proved(room):
-    """What was proved; its libraries are gathered in a folder of the room."""
+    """Returns the proved files; the libraries are gathered in a folder of the room."""
     (_, program), *archives = [(name, proved_file(crate, name)) for crate, name in proved_files()]
     libraries = room / "libraries"
     libraries.mkdir(exist_ok=True)
@@ -97,7 +98,7 @@ def make_marked(folder):
 
 
 def unproved(_room):
-    """What is built without proof, and kept by its sources."""
+    """Returns the files that are built without proof, and kept by their sources."""
     tool = runs.loaded("unproved")
     sources = sorted(it for crate in exported.crates_below(PROGRAM) for it in (CRATES / crate / "src").rglob("*.rt"))
     try:

@@ -1,12 +1,13 @@
-"""Packs what is handed to people into out/dist/: an archive, the Rust crate, the Python wheel and a Debian package.
+"""Packs everything that people are given into out/dist/: an archive, the Rust crate, the Python wheel and a Debian
+package.
 
-The archive is unpacked anywhere, as into /usr/local: programs, static and shared library, headers, pkg-config, unit,
-manual pages, completions, examples, docs and units of a cluster. The crate links what DURKENZO_LIB names:
-lib/durkenzo of the archive.
+The archive can be unpacked anywhere, for example into /usr/local: programs, static and shared library, headers,
+pkg-config, unit, manual pages, completions, examples, docs and units of a cluster. The crate links the library that
+DURKENZO_LIB names: lib/durkenzo of the archive.
 
-It packs what was proved. With --unproved it builds all without proof, and says so in each name, in --version, in INFO
-and in the package's description. The same sources, built in the same folder by the same compilers, give the same
-bytes: all times are that of the last commit, or SOURCE_DATE_EPOCH.
+It packs proved programs and libraries. With --unproved it builds all of them without proof, and says so in each name,
+in --version, in INFO and in the package's description. The same sources, built in the same folder by the same
+compilers, give the same bytes, because all times are the time of the last commit, or SOURCE_DATE_EPOCH.
 """
 import argparse
 import hashlib
@@ -28,7 +29,8 @@ SUMS = "SHA256SUMS"
 
 
 def epoch():
-    """The time of the last commit, or that of SOURCE_DATE_EPOCH, or of the version where there is no repository."""
+    """Returns the time of the last commit, or SOURCE_DATE_EPOCH, or the time of the version if there is no
+    repository."""
     if given := os.environ.get("SOURCE_DATE_EPOCH"):
         return int(given)
     ran = subprocess.run(["git", "log", "-1", "--format=%ct"], cwd=made.TOP, capture_output=True, text=True)
@@ -44,7 +46,7 @@ def archive(room, given, into):
 
 
 def crate(room, given, into):
-    """Has cargo pack the crate, of a copy that has the licence, and the version of what is packed."""
+    """Makes cargo pack the crate, from a copy that has the licence, and the version of the packed library."""
     copy = room.folder / "crate"
     shutil.copytree(CRATE, copy, ignore=shutil.ignore_patterns("target", "out"))
     shutil.copyfile(made.TOP / "LICENSE", copy / "LICENSE")
@@ -60,7 +62,7 @@ def crate(room, given, into):
 
 
 def wheel(room, given, into):
-    """Has pip make the wheel; returns nothing where no Python can."""
+    """Makes pip build the wheel; returns nothing if no Python can."""
     python = library.wheel_maker()
     if not python:
         print("dist: no python3 has pip, setuptools and wheel: there is no wheel", file=sys.stderr)
@@ -76,7 +78,7 @@ def wheel(room, given, into):
 
 
 def package(room, given, into):
-    """The Debian package; nothing where dpkg-deb isn't installed."""
+    """Returns the Debian package, or nothing if dpkg-deb isn't installed."""
     if not shutil.which("dpkg-deb"):
         print("dist: dpkg-deb isn't installed: there is no Debian package", file=sys.stderr)
         return None
@@ -84,7 +86,7 @@ def package(room, given, into):
 
 
 def clear(into):
-    """Makes the folder, or takes away what was packed there before, and nothing else."""
+    """Makes the folder, or removes the files that were packed there before, and nothing else."""
     into.mkdir(parents=True, exist_ok=True)
     before = into / SUMS
     for line in before.read_text(encoding="utf-8").splitlines() if before.is_file() else []:
@@ -93,7 +95,7 @@ def clear(into):
 
 
 def pack(is_proved, into):
-    """Packs all into the folder, in place of what was packed there before; returns the files."""
+    """Packs everything into the folder, in place of the files that were packed there before; returns the files."""
     clear(into)
     with tempfile.TemporaryDirectory(prefix="sm-dist-") as folder:
         room = tree.Room(folder, epoch())
@@ -112,7 +114,7 @@ def main():
     parser.add_argument("--unproved", action="store_true", help="packs what is built without proof, and says so")
     parser.add_argument("--into", type=pathlib.Path, default=INTO, help="in place of out/dist")
     given = parser.parse_args()
-    # What pip puts into a wheel has the modes of its files.
+    # Files that pip puts into a wheel keep their modes.
     os.umask(0o022)
     try:
         for file in pack(not given.unproved, given.into.resolve()):

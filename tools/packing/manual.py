@@ -1,8 +1,8 @@
-"""A manual page of what a program says of itself."""
+"""A manual page, made from a program's --help."""
 import re
 import time
 
-# What a page adds to what its program says: examples, and where more stands.
+# The parts that a page adds to its program's help: examples, and the pages that say more.
 EXAMPLES = {
     "sm_cli": ["sm_cli model < migration.in", "sm_cli threads --explain < migration.in"],
     "durkenzo-server": [
@@ -28,7 +28,7 @@ def escaped(text):
 
 
 def entry(it):
-    """A term in bold, what it takes in italics, and its paragraphs."""
+    """Returns a term in bold, its argument in italics, and its paragraphs."""
     parts = filter(None, re.split(r"(<[^>]+>)", it.term))
     fonts = (("I", part[1:-1]) if part.startswith("<") else ("B", part) for part in parts)
     term = "".join(rf"\f{font}{escaped(part)}\fR" for font, part in fonts)
@@ -60,7 +60,7 @@ def heading(name, lines):
 
 
 def ends(name, script_page):
-    """The exit statuses: those of sm_cli as the page of scripts has them."""
+    """Returns the exit statuses; those of sm_cli are the ones on the page of scripts."""
     rows = ENDS.get(name)
     if rows is None:
         listed = script_page.partition("## Exit status")[2].replace("\n  ", " ")
@@ -70,7 +70,7 @@ def ends(name, script_page):
 
 
 def page(told, version, epoch, script_page):
-    """The page of what a program told, of this version; the date is that of the epoch."""
+    """Returns the page of a program's help, for this version; the date is that of the epoch."""
     day = time.strftime("%Y-%m-%d", time.gmtime(epoch))
     own = [it for it in told.sections if it.heading not in ("Commands", "") and it.has_options]
     rest = [it for it in told.sections if it.heading != "Commands" and not it.has_options]

@@ -1,4 +1,4 @@
-"""The licences of other people's crates in what is packed: their texts come with it."""
+"""The licences of other people's crates in the packages, whose texts must come with them."""
 import collections
 import pathlib
 import re
@@ -7,12 +7,12 @@ import exported
 import runs
 from packing import made
 
-# What the file of a licence is called, and the one that suffices where there are several.
+# The names of licence files, and the licence that suffices if there are several.
 NAMES = ("LICENSE", "LICENCE", "COPYING", "COPYRIGHT", "UNLICENSE")
 SUFFICES = "MIT"
 HEAD = "Other people's crates in {}, each under the licence below its name.\n"
 LINE = "-" * 100
-# What stands in the shared object.
+# The crate in the shared object.
 LIBRARY = "sm_c"
 
 
@@ -24,7 +24,8 @@ def texts_in(folder):
 
 
 def of_server():
-    """Yields the crates that cargo takes, with the texts of each: where it brings none, what its manifest says."""
+    """Yields the crates that cargo takes, with the texts of each, or, if it brings none, the licence of its
+    manifest."""
     for package in runs.loaded("licences").packages("durkenzo-server"):
         texts = texts_in(pathlib.Path(package["manifest_path"]).parent)
         yield (
@@ -34,8 +35,8 @@ def of_server():
 
 
 def of_kit(*crates):
-    """Yields the toolchain's crates on which these of ours stand, and those below them, with the texts of each: its own
-    have none."""
+    """Yields the toolchain's crates on which these of ours rest, and those below them, with the texts of each. The
+    toolchain's own have none."""
     lines = {name: line for it in crates for name, line in exported.crates_below(it).items()}
     found = sorted({it for line in lines.values() for it in line.partition(":")[2].split()} - lines.keys())
     for name in found:
@@ -55,11 +56,11 @@ def gathered(what, crates):
 
 
 def text():
-    """Those of all that is packed."""
+    """Returns the notices of everything that is packed."""
     crates = [*of_server(), *of_kit(made.PROGRAM, *exported.CRATES)]
     return gathered("the server, sm_cli and the libraries", crates)
 
 
 def of_library():
-    """Those of the library for C and Python."""
+    """Returns the notices of the library for C and Python."""
     return gathered("the library", of_kit(LIBRARY))

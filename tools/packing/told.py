@@ -1,9 +1,9 @@
-"""What a program says of itself by --help, from which its manual page and its completions are made."""
+"""A program's --help, from which its manual page and its completions are made."""
 import re
 import subprocess
 from dataclasses import dataclass, field
 
-# A help's entry begins near the margin, and what is said of it stands behind it or farther in.
+# A help's entry begins near the margin, and its text comes behind it or farther in.
 ENTRY = re.compile(r" {2,6}(\S.*?)(?:  +(\S.*))?")
 HEADING = re.compile(r"([A-Z].*):")
 NAMED = re.compile(r"(--?[\w-]+)")
@@ -13,13 +13,13 @@ CHOICE = re.compile(r"- (\w+): (.+)")
 
 @dataclass
 class Entry:
-    """A term, as an option with what it takes, and what is said of it, in paragraphs."""
+    """A term, for example an option with its argument, and its text, in paragraphs."""
 
     term: str
     said: list[str] = field(default_factory=list)
 
     def take(self, line, is_apart):
-        """Takes a further line, which goes on with the last paragraph, but where it stands apart or is of a list."""
+        """Takes a further line, which goes on with the last paragraph, unless it stands apart or belongs to a list."""
         if is_apart or not self.said or line.startswith("- "):
             self.said.append(line)
         else:
@@ -32,13 +32,13 @@ class Entry:
 
     @property
     def takes(self):
-        """What an option takes, or None."""
+        """Returns the argument of an option, or None."""
         found = TAKES.search(self.term)
         return found and found[1]
 
     @property
     def choices(self):
-        """The words of which one is given, where these are all."""
+        """Returns the words of which one must be given, if these are all."""
         return [it[1] for it in map(CHOICE.fullmatch, self.said) if it]
 
     @property
@@ -53,7 +53,7 @@ class Section:
 
     @property
     def is_verbatim(self):
-        """Whether it shows lines, of which nothing is said."""
+        """Returns whether it only shows lines, which have no text."""
         return all(it.term and not it.said for it in self.entries)
 
     @property
@@ -63,7 +63,7 @@ class Section:
 
 @dataclass
 class Told:
-    """What a program, or one of its commands, says: what it is, how it is called, and its sections."""
+    """The help of a program, or of one of its commands: its purpose, its usage, and its sections."""
 
     name: str
     about: list[str]
@@ -87,7 +87,7 @@ def paragraphs(lines):
 
 
 def sections_of(lines):
-    """The sections with their entries; a paragraph at the margin stands in a section without a heading."""
+    """Returns the sections with their entries; a paragraph at the margin is in a section without a heading."""
     found, is_apart = [], True
     for line in lines:
         if heading := HEADING.fullmatch(line):
@@ -110,7 +110,7 @@ def asked(command):
 
 
 def told_by(program, *words):
-    """What the program says of itself, or of these words of it."""
+    """Returns the help of the program, or of these words of it."""
     lines = asked([program, *words])
     at = next(n for n, it in enumerate(lines) if it.startswith("Usage: "))
     usage = lines[at].removeprefix("Usage: ")

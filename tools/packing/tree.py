@@ -13,7 +13,7 @@ FOLDER = TOP / "library"
 DOCS = "share/doc/durkenzo"
 # A file of a package, or a link, which has a target and no bytes.
 File = namedtuple("File", "content mode target", defaults=(0o644, None))
-# Where pages and completions lie below the prefix, by the name of a program.
+# The places of pages and completions below the prefix, by the name of a program.
 MANUAL = "share/man/man1/{}.1"
 BASH = "share/bash-completion/completions/{}"
 ZSH = "share/zsh/{}/_{}"
@@ -23,13 +23,13 @@ ALIAS = "durkenzo"
 
 
 class Room:
-    """Where what is packed is made: a folder of its own, and the time that all files have."""
+    """The folder in which packed files are made, and the time that all files have."""
 
     def __init__(self, folder, epoch):
         self.folder, self.epoch = pathlib.Path(folder), epoch
 
     def run(self, *words, **how):
-        """Runs a command, or raises NotMade with what it said."""
+        """Runs a command, or raises NotMade with its output."""
         ran = subprocess.run([*map(str, words)], capture_output=True, text=True, stdin=subprocess.DEVNULL, **how)
         if ran.returncode:
             said = f"{ran.stdout[-2000:]}{ran.stderr[-2000:]}"
@@ -37,7 +37,7 @@ class Room:
         return ran.stdout
 
     def stripped(self, path, what):
-        """The file without what only a debugger reads; an archive has no times."""
+        """Returns the file without the parts that only a debugger reads; an archive has no times."""
         copy = self.folder / "stripped"
         shutil.copyfile(path, copy)
         self.run("strip", "--enable-deterministic-archives", what, copy)
@@ -51,12 +51,12 @@ def programs(room, given):
 
 
 def link(file):
-    """The link, which leads to the same place of what is packed."""
+    """Returns the link, which leads to the same place in the package."""
     return File(b"", target=os.readlink(file))
 
 
 def shared(room, given):
-    """Has `make` build the shared object and the archive of all; returns the folder."""
+    """Makes `make` build the shared object and the archive of everything; returns the folder."""
     built = room.folder / "library"
     room.run("make", "-C", FOLDER, "all", f"BUILD={built}", f"DURKENZO_LIB={given.libraries}")
     return built
@@ -69,7 +69,8 @@ def headers(given):
 
 
 def libraries(room, given):
-    """What a program in C links, and in lib/durkenzo what DURKENZO_LIB names for one in Rust."""
+    """Returns the files that a program in C links, and in lib/durkenzo the files that DURKENZO_LIB names for one in
+    Rust."""
     built = shared(room, given)
     for file in sorted(built.glob("libdurkenzo.so*")):
         is_link = file.is_symlink()
@@ -89,7 +90,7 @@ def libraries(room, given):
 
 
 def pages(room, given, zsh_folder):
-    """Manual pages and completions, of what the programs say of themselves."""
+    """Returns manual pages and completions, made from the help of the programs."""
     script_page = (TOP / "docs/SCRIPT.md").read_text(encoding="utf-8")
     for path in (given.program, given.server):
         said = told.told_by(path)
@@ -121,7 +122,7 @@ def texts(names):
 
 
 def licences():
-    """The licences of what is in the programs and libraries of other people."""
+    """Returns the licences of other people's code in the programs and libraries."""
     yield f"{DOCS}/NOTICES", File(notices.text().encode())
 
 
@@ -132,7 +133,7 @@ def docs():
 
 
 def deployed():
-    """The names of what installs the units of a cluster, as a page says."""
+    """Returns the names of the files that install the units of a cluster, as a page says."""
     return [str(it.relative_to(TOP)) for it in sorted((TOP / "deploy").iterdir())]
 
 

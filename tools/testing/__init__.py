@@ -1,2 +1,2 @@
-"""What ./test is made of: its parts in stages (stages), how they run (runner, progress), and what they do (the other
+"""The parts of ./test: its stages (stages), how they run (runner, progress), and the parts themselves (the other
 modules)."""

@@ -1,5 +1,5 @@
-"""What ordinary Rust passes that needs nothing of what is proved: the stores in which records and data lie, and the
-checker of what clients were answered."""
+"""The part of ./test for ordinary Rust that needs no proved library: the stores for records and data, and the checker
+of clients' answers."""
 import shutil
 
 import other_crates
@@ -9,7 +9,7 @@ MEMBERS = ("durkenzo-store", "durkenzo-trial")
 
 
 def skipped(say):
-    """Says what isn't tried, for want of what."""
+    """Prints which part isn't tried, because which program is missing."""
     if not shutil.which("cargo"):
         say("cargo isn't installed: the stores, the trial's checker and the library's crate aren't tried")
     elif not other_crates.has_crates():

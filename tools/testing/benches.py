@@ -1,4 +1,5 @@
-"""What the tools of bench/ pass: tables, what is worse, when the machine rests, and the picture. Nothing is timed."""
+"""The part of ./test for the tools of bench/: tables, the search for slower figures, whether the machine rests, and the
+picture. Nothing is timed."""
 import subprocess
 
 import sources

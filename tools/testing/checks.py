@@ -1,8 +1,8 @@
-"""Sees which checks of the prover run below a process, and what each has cost, by reading /proc.
+"""Finds the checks of the prover that run below a process, and the cost of each, by reading /proc.
 
 A check is one run of the prover: the proof of a crate, of its tests, or of one of its must-fail edits. A prover that
-shares a check with copies of itself waits for them, and their time is in its own. What a check does after the last
-look at it is lost.
+shares a check with copies of itself waits for them, and their time is in its own. Work of a check after the last look
+at it isn't counted.
 """
 import os
 import re
@@ -16,7 +16,7 @@ PARTS = ("proof", "tests", "edits")
 
 class Check:
     """One run of the prover: its process, how many jobs it has, its crate and part, its folder, whether it goes on from
-    what was proved before, when it was first and last seen, its processor seconds and its memory in KiB."""
+    an earlier proof, when it was first and last seen, its processor seconds and its memory in KiB."""
 
     def __init__(self, pid, jobs, crate, part, folder, goes_on, now):
         self.pid, self.jobs, self.crate, self.part, self.folder, self.goes_on = pid, jobs, crate, part, folder, goes_on
@@ -35,13 +35,13 @@ def crate_of(words):
 
 
 def jobs_of(words):
-    """Returns how many jobs a prover was given: one where none is told."""
+    """Returns how many jobs a prover was given, or one if it isn't told."""
     found = re.search(r"--jobs[ =](\d+)", " ".join(words))
     return int(found[1]) if found else 1
 
 
 def look(root, checks):
-    """Notes in `checks` what each check that runs now has used so far, and returns those that run."""
+    """Notes in `checks` how much each check that runs now has used so far, and returns the running checks."""
     running, now, provers = [], time.time(), set()
     for pid in below(root):
         try:

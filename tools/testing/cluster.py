@@ -1,8 +1,9 @@
-"""What a cluster of several processes over etcd passes, where etcd is installed: it begins and ends as a demo, a short
-trial by faults finds nothing wrong and finds planted bugs, of fleets too, and what its page says to type does what it
-says."""
+"""The part of ./test for a cluster of several processes over etcd, if etcd is installed. The cluster starts and ends as
+a demo; short trials by faults, of fleets too, find nothing wrong, and find planted bugs; and the commands of its page
+give the results that the page shows."""
 import contextlib
 import json
+import os
 import re
 import shutil
 import signal
@@ -10,7 +11,8 @@ import subprocess
 import threading
 import urllib.request
 
-import fleet
+import fleet_trial
+import local_processes
 import other_crates
 import runs
 import sources
@@ -24,21 +26,20 @@ ANSWER = 20
 # Each is found within this many minutes, or on a crowded machine in twice as many at each further try.
 PLANTED = {"lost-is-made": 0.2, "early-drop": 0.1}
 TRIES = 5
-# What disturbs a fleet meanwhile, and wrong rules of its processes, each of which is found within a minute.
-FLEET_NEMESES = "kill-server,cut-etcd,cut-servers,restart,moves"
-FLEET_RULES = ("next-begins-anew", "owner-executes-on", "no-lease")
+# The nemeses that disturb a fleet meanwhile, and its clocks, in a program in which these can be turned.
+FLEET_NEMESES, FLEET_CLOCKS = "kill-server,cut-etcd,cut-servers,restart,moves", "clock,boot-clock,drift,suspend"
 
 
 def skipped(say):
-    """Says what isn't tried, for want of what."""
+    """Prints which part isn't tried, because which program is missing."""
     if not shutil.which("etcd"):
         say("etcd isn't installed: no cluster of several processes is tried; tools/setup installs it")
 
 
 @contextlib.contextmanager
 def watched(command):
-    """A demo that runs, and what it says. It is killed if it isn't over in time, or by the end of the block: so nobody
-    waits longer for what it says."""
+    """A demo that runs, and its output. It is killed if it isn't over in time, or by the end of the block, so nobody
+    waits longer for its output."""
     with subprocess.Popen(command, stdout=subprocess.PIPE, stderr=subprocess.STDOUT, text=True) as run:
         deadline = threading.Timer(SECONDS, run.kill)
         deadline.start()
@@ -63,10 +64,12 @@ def demo(room, program):
         ports, processes = re.findall(r"port (\d+)", text), re.findall(r"process (\d+)", text)
         try:
             answers = [asked(int(it)) for it in ports]
+            shards = came_home(int(ports[0]), int(re.findall(r"kill -9 (\d+)", text)[0]))
         finally:
             run.send_signal(signal.SIGINT)
         rest = run.communicate(timeout=SECONDS)[0]
     yield verdict("the demo of a cluster answers", len(ports) == 3 and set(answers) == {b"hello"}, f"{text}{answers}")
+    yield verdict("a killed server's shards come home, as the demo says", shards > 0 and "come home" in text, text)
     yield verdict("the demo ends", run.returncode == 0 and "stopped" in rest, f"{run.returncode}: {rest}")
     left = [it for it in processes if runs.pathlib.Path(f"/proc/{it}").exists()]
     yield verdict("the demo leaves no process", len(processes) == 6 and not left, str(left))
@@ -100,20 +103,20 @@ def service(room):
 
 
 def page(asked):
-    """What the demo answers to this URL or request, in time."""
+    """Returns the demo's answer to this URL or request, in time."""
     with urllib.request.urlopen(asked, timeout=ANSWER) as answer:
         return answer.read()
 
 
 def moved(url):
-    """Moves a shard by the page, and returns what isn't as it should be, or nothing."""
+    """Moves a shard by the page, and returns the fault that it finds, or nothing."""
 
     def state(holds):
         def look():
             found = json.loads(page(f"{url}state.json"))
             return found if found.get("shards") and holds(found) else None
 
-        return fleet.served.eventually(look)
+        return local_processes.served.eventually(look)
 
     if b"<script>" not in page(url):
         return "it is another page"
@@ -128,18 +131,39 @@ def moved(url):
 
 
 def asked(port):
-    """What a server of the demo answers to a text that each is given, once it isn't refused, as a lease may end."""
+    """Returns the answer of a server of the demo to a text that each is given, once it isn't refused, because a lease
+    may end."""
 
     def answer():
-        with contextlib.suppress(fleet.served.Refused, OSError), fleet.served.Client(port) as client:
+        served = local_processes.served
+        with contextlib.suppress(served.Refused, OSError), served.Client(port) as client:
             client.ask("SET", "greeting", "hello")
             return client.ask("GET", "greeting")
 
-    return fleet.served.eventually(answer)
+    return local_processes.served.eventually(answer)
+
+
+def came_home(port, killed):
+    """How many shards the demo's last server has, once the process that is killed was begun again."""
+
+    def last():
+        served = local_processes.served
+        with contextlib.suppress(served.Refused, OSError), served.Client(port) as client:
+            return client.ask("SM", "SERVERS")[-1].split()
+
+    before = local_processes.served.eventually(last)
+    os.kill(killed, signal.SIGKILL)
+
+    def back():
+        row = last()
+        is_another = row and row[1] == b"up" and row[5] != before[5]
+        return int(row[3]) if is_another else 0
+
+    return local_processes.served.eventually(back)
 
 
 def found(bug, minutes, program):
-    """A planted bug has to be found, by chance: in one of some tries."""
+    """The trial must find a planted bug, by chance, in one of some tries."""
     words = ["--cluster", "--plant", bug, "--no-replay", program]
     for seed in range(TRIES):
         ran = tool("trial", "--seed", seed + 1, "--minutes", minutes * 2**seed, *words)
@@ -149,7 +173,7 @@ def found(bug, minutes, program):
 
 
 def found_in_fleet(rule):
-    """A wrong rule of a fleet's processes has to be found."""
+    """The trial must find a wrong rule of a fleet's processes."""
     for seed in range(TRIES):
         ran = tool("trial", "--fleet", "--plant", rule, "--seed", seed + 1, "--minutes", 1)
         if ran.reason and "exit status 1" in ran.reason and "the planted rule is found" in ran.reason:
@@ -158,7 +182,7 @@ def found_in_fleet(rule):
 
 
 def passed(room):
-    """All of it; nothing where the server isn't tried either, or etcd isn't installed."""
+    """Yields all parts, or nothing if the server isn't tried either, or etcd isn't installed."""
     serve = runs.loaded("serve")
     if not library.is_there() or not all(map(shutil.which, ("cargo", "etcd"))):
         return
@@ -175,5 +199,9 @@ def passed(room):
     for bug, minutes in PLANTED.items():
         yield found(bug, minutes, program)
     yield tool("trial", "--fleet", "--nemesis", FLEET_NEMESES, "--minutes", 0.4)
-    yield from map(found_in_fleet, FLEET_RULES)
+    # Wrong rules of a fleet's processes: each is found within a minute, and mostly in seconds. First come those for
+    # which the program is built as it ships.
+    rules = sorted(fleet_trial.PLANTS, key=lambda it: bool(fleet_trial.PLANTS[it].env))
+    yield from map(found_in_fleet, rules)
+    yield tool("trial", "--fleet", "--nemesis", FLEET_CLOCKS, "--minutes", 0.4)
     yield tool("operations", program)

@@ -1,7 +1,7 @@
 """Keeps each check of the prover on processors of its own.
 
-The prover's threads wait for one another: over several processors a check takes up to a third more of their time than
-on one, and ends hardly earlier.
+The prover's threads wait for one another. So over several processors a check takes up to a third more of their time
+than on one, and hardly ends earlier.
 """
 import contextlib
 import os
@@ -16,7 +16,7 @@ class Cores:
         self.all, self.taken = sorted(os.sched_getaffinity(0)), {}
 
     def keep(self, running):
-        """Has each check that runs now keep to as many processors as it has jobs: to those with the fewest others."""
+        """Keeps each check that runs now on as many processors as it has jobs: on those with the fewest others."""
         self.taken = {it: kept for it, kept in self.taken.items() if it in running}
         for check in running:
             if check not in self.taken:

@@ -1,9 +1,9 @@
-"""What the parts of the last whole run cost: the table of costs.md, from which ./test estimates how long it still
+"""The costs of the parts of the last whole run: the table of costs.md, from which ./test estimates how long a run still
 takes.
 
 A row of a crate has the processor seconds of its proof and of its must-fail edits, with the number of their checks; a
-row of another part has the seconds that it took, if they were LEAST_SECONDS. `write` puts the rows of a run in their
-place.
+row of another part has the seconds that it took, if they were at least LEAST_SECONDS. `write` puts the rows of a run in
+their place.
 """
 import collections
 import pathlib
@@ -17,13 +17,13 @@ ROW = re.compile(r"^\| `?([^`|]+?)`? \| (\d*) \| (?:(\d+) \((\d+)\))? ?\| (\d+) 
 # A part that took less has no row.
 LEAST_SECONDS = 10
 
-# Seconds of a crate's proof and of its edits, the number of their checks, and of all; a part that is no crate has the
-# last alone.
+# The seconds of a crate's proof and of its edits, the number of their checks, and the seconds of all. A part that isn't
+# a crate has only the last.
 Cost = collections.namedtuple("Cost", "proof edits checks whole")
 
 
 def read(page=PAGE):
-    """Returns the costs of the last run by the names of crates and parts; none where the page has no table."""
+    """Returns the costs of the last run by the names of crates and parts, or none if the page has no table."""
     text = page.read_text(encoding="utf-8") if page.exists() else ""
     table = text.partition(HEAD)[2].partition("\n\n")[0]
     return {name: Cost(*(int(it or 0) for it in rest)) for name, *rest in ROW.findall(table)}
@@ -56,7 +56,7 @@ def brief(checks):
 
 
 def table(checks, parts):
-    """Returns the table of a run: what its checks took by crate, and its other parts, a dictionary of seconds, the
+    """Returns the table of a run: the costs of its checks by crate, and its other parts, a dictionary of seconds, the
     dearest first."""
     rows = [
         row(name, it["proof"], it["edits"], it["tried"], it["proof"] + it["tests"] + it["edits"], it["memory"])
@@ -68,7 +68,7 @@ def table(checks, parts):
 
 
 def write(checks, parts, page=PAGE):
-    """Puts the table of a run in the place of the one that stands on the page."""
+    """Puts the table of a run in the place of the one on the page."""
     text = page.read_text(encoding="utf-8")
     before, head, after = text.partition(HEAD)
     if not head:

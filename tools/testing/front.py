@@ -1,4 +1,4 @@
-"""What ./sm passes, over the program that was proved."""
+"""The part of ./test for ./sm, over the proved program."""
 import os
 import pathlib
 import shutil
@@ -46,7 +46,7 @@ def strict():
 
 
 def settings_over_lines(script):
-    """A script whose settings stand over several lines is pointed to ./sm check, which makes what runs."""
+    """If a script's settings take several lines, the message points to ./sm check, which makes a script that runs."""
     first, _, rest = (EXAMPLES / "first-path.in").read_bytes().partition(b"\n")
     script.write_bytes(b"# settings\n" + first.replace(b",", b",\n") + b"\n" + rest)
     pointed = fault_of([SM, "model", script], 1, b"settings BadJson\n", "./sm check")
@@ -57,7 +57,7 @@ def settings_over_lines(script):
 
 
 def without_rt(room):
-    """In a tree that was never proved, where rt isn't installed, it says what to install."""
+    """In a tree that was never proved, without rt installed, the message says which program to install."""
     tree, tools = room / "tree", room / "bin"
     tree.mkdir()
     tools.mkdir()

@@ -17,7 +17,7 @@ def output_of(*command):
 
 
 def fault_of(path):
-    """Returns what the program calls that it must not, or nothing."""
+    """Returns the calls of the program that it must not make, or nothing."""
     taken = [
         it.split()[-1].partition("@")[0]
         for it in output_of("nm", "-D", "--undefined-only", path).splitlines()
@@ -30,8 +30,8 @@ def fault_of(path):
 
 
 def trap_of(code):
-    """Returns what of the disassembled code is a call of the system other than futex, or nothing. `syscall` may be
-    called where its number, futex's, was loaded since the last call of the same function."""
+    """Returns the calls of the system in the disassembled code other than futex, or nothing. `syscall` may be called if
+    futex's number was loaded since the last call of the same function."""
     number = None
     for line in code.splitlines():
         if TRAP.search(line):

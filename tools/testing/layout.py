@@ -1,5 +1,6 @@
-"""Sees whether the forms that were asked for are there, whether each crate is as `rt fmt` lays it out, its lines within
-their columns, and all used that its files take over. `rt` has no way to ask, but the program behind it has."""
+"""Checks that the forms that were asked for are there, that each crate has the layout of `rt fmt`, that its lines keep
+within their columns, and that each name that its files import is used. `rt` has no command for this, but the program
+behind it has."""
 import pathlib
 import shutil
 import subprocess
@@ -28,7 +29,8 @@ def of_benches(room):
 
 def laid_out(room):
     """Each crate of crates.txt, and each that a bench times, is laid out, those of crates.txt within 120 columns and
-    without what they don't use, and so are the packages of Rust. Those of tests are looked at by their tool."""
+    without names that they don't use, and so are the packages of Rust. The crates of tests are checked by their
+    tool."""
     yield tool("asked")
     yield tool("long-lines")
     yield tool("unused")

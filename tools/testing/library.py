@@ -1,8 +1,9 @@
-"""What the library passes: its Rust crate, its C example and its Python module, each with what this machine has for it.
+"""The part of ./test for the library: its Rust crate, its C example and its Python module, each with the tools that
+this machine has for it.
 
-`rt ci` proves the crates of static libraries, and builds none: `rt lib` does, which proves each crate below once more
-where nothing is kept. So where it left none, the library and what stands on it are tried over those that are built
-without proof."""
+`rt ci` proves the crates of static libraries, but builds none. `rt lib` builds them, and proves each crate below once
+more if nothing is kept. So if there is no proved library, the library and everything that rests on it are tried over
+the ones that are built without proof."""
 import os
 import pathlib
 import re
@@ -27,14 +28,14 @@ COUNTED = "every admission was counted\n"
 TOLD = "the header is right\n"
 SECONDS = 1200
 STRICT = ["gcc", "-std=c11", "-Wall", "-Wextra", "-Werror"]
-# The C example with a database is compiled where this is.
+# The C example with a database is compiled if this file is there.
 SQLITE = pathlib.Path("/usr/include/sqlite3.h")
-# The Pythons of which one may have what makes a wheel: Debian's, and the first of the PATH.
+# The Pythons, one of which may have the tools for a wheel: Debian's, and the first of the PATH.
 PYTHONS = ("/usr/bin/python3", "python3")
 
 
 def is_there():
-    """Whether there are libraries: in the folder that is named, or each where it was proved."""
+    """Returns whether there are libraries: in the folder that is named, or each in the folder of its proof."""
     return NAMED in os.environ or all(it.is_file() for it in PROVED)
 
 
@@ -47,7 +48,7 @@ def without_proof():
 
 
 def ran(name, command, folder, wanted=None, **env):
-    """Whether the command ends well, and writes what is wanted."""
+    """Returns whether the command ends well, and writes the wanted output."""
     try:
         env = {**os.environ, **{key: str(it) for key, it in env.items()}}
         done = limited.run(list(map(str, command)), SECONDS, cwd=folder, env=env, text=True)
@@ -58,7 +59,8 @@ def ran(name, command, folder, wanted=None, **env):
 
 
 def fenced(room, program, name, **env):
-    """Of two processes, one after the other, the store has all writes; tokens that begin too low are refused aloud."""
+    """Two processes run, one after the other: the store has all their writes; and tokens that begin too low are refused
+    with a message."""
     words, refuses = [*program, room / f"{name}.store"], '! "$@" 2> refused && grep -q later refused'
     yield ran(f"the fenced writes in {name}", [*words, 100], room, "the accounts have 100\n", **env)
     yield ran(f"those of a second process in {name}", [*words, 60], room, "the accounts have 160\n", **env)
@@ -82,7 +84,7 @@ def in_rust(room):
 
 
 def of_program(room, prefix, flags, name, wanted):
-    """The program of this name in library/c compiles, and writes what is wanted."""
+    """The program of this name in library/c compiles, and writes the wanted output."""
     program, env = room / name, {"LD_LIBRARY_PATH": prefix / "lib"}
     made = [*STRICT, FOLDER / f"c/{name}.c", "-o", program]
     yield ran(f"the C {name} compiles", [*made, *flags, "-pthread"], room)
@@ -94,20 +96,20 @@ def of_program(room, prefix, flags, name, wanted):
 
 
 def wanted_version():
-    """The version that is told of what stands on the libraries: it says so if they aren't proved."""
+    """Returns the version of the programs over the libraries: it says so if they aren't proved."""
     is_marked = NAMED in os.environ and (pathlib.Path(os.environ[NAMED]) / exported.MARK).is_file()
     return made.VERSION + (made.UNPROVED if is_marked else "")
 
 
 def output_of(*command, **env):
-    """What the command writes, or nothing where it can't."""
+    """Returns the output of the command, or nothing if it fails."""
     done = subprocess.run(list(map(str, command)), env={**os.environ, **env}, capture_output=True, text=True)
     return done.stdout
 
 
 def of_object(prefix, version):
-    """The shared object's name has its interface's number, links lead to it, and it exports its calls alone; each
-    header is there, and pkg-config tells the version."""
+    """The shared object's name has its interface's number, links lead to it, and it exports only its calls; each header
+    is there, and pkg-config knows the version."""
     folder, numbers = prefix / "lib", version.partition("+")[0]
     name = re.search(r"SONAME +(\S+)", output_of("objdump", "-p", folder / "libdurkenzo.so"))
     wanted, file = f"libdurkenzo.so.{numbers.partition('.')[0]}", f"libdurkenzo.so.{numbers}"
@@ -125,7 +127,7 @@ def of_object(prefix, version):
 
 
 def in_c(room):
-    """The prefix is what `make install` fills, and the compiler finds it as a user's does."""
+    """`make install` fills the prefix, and the compiler finds it as a user's does."""
     prefix = room / "prefix"
     yield ran("make install", ["make", "install", f"BUILD={room}/build", f"PREFIX={prefix}"], FOLDER)
     yield from of_object(prefix, wanted_version())
@@ -160,7 +162,7 @@ def wheel_maker():
 
 
 def of_platform(wheel, version):
-    """The wheel says that it is for this platform, and for any Python; and what a page about it shows."""
+    """The wheel says that it is for this platform, and for any Python; and the example of a page about it runs."""
     with zipfile.ZipFile(wheel) as packed:
         texts = {pathlib.Path(it).name: packed.read(it).decode() for it in packed.namelist() if ".dist-info/" in it}
     told = texts.get("WHEEL", "")
@@ -186,7 +188,7 @@ def in_wheel(room, python):
 
 
 def passed(room):
-    """All of it; nothing where the library wasn't built: that it has to be is the proofs' part."""
+    """Yields all parts, or nothing if the library wasn't built: the proofs' part says that it must be."""
     room = pathlib.Path(room)
     if not is_there():
         return

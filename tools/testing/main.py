@@ -1,6 +1,6 @@
-"""Tries whether the repository is as it has to be: what has to pass before a change is merged.
+"""Tries whether the repository is in order: everything here must pass before a change is merged.
 
-What is cheap comes first, so that most failures show within minutes:
+Cheap parts come first, so that most failures show within minutes:
 
   without proof   the sources' layout, the docs, the tests, and the examples on a program that is built without proof
   proofs          rt ci: each crate, and each wrong body, which the prover must refuse; what an earlier run on this
@@ -8,9 +8,9 @@ What is cheap comes first, so that most failures show within minutes:
   what is proved  the examples, and tools that look for faults, on the program that was just proved, as each of two
                   compilers built it
 
-A line tells how far it is; what fails is said at once, with its reason, and what stands still for too long is ended
-and has failed. The last line is 'N passed, M failed', and the exit status is 1 where anything failed. It runs from any
-folder.
+A line says how far the run is. A failure is printed at once, with its reason; a part that stands still for too long is
+ended and has failed. The last line is 'N passed, M failed', and the exit status is 1 if anything failed. It runs from
+any folder.
 """
 import argparse
 import os
@@ -61,14 +61,14 @@ def arguments():
 
 
 def keeps():
-    """Whether `rt ci` goes on from what it kept, unless it is told not to, and takes crates: not in all kits. Where rt
-    isn't there, what is to prove says so."""
+    """Returns whether `rt ci` goes on from its kept proofs, unless it is told not to, and takes crates: not all kits
+    can. If rt isn't there, the part that proves says so."""
     rt = shutil.which("rt")
     return bool(rt) and b"--anew" in pathlib.Path(rt).resolve().read_bytes()
 
 
 def proofs_of(given):
-    """What is to be proved: nothing, these crates and those on which they stand, or all."""
+    """Returns the crates that must be proved: none, these crates and those on which they rest, or all."""
     if given.quick:
         return Proofs([], [])
     words = ["rt", "ci", *(["--anew"] if keeps() and given.anew else [])]
@@ -94,7 +94,7 @@ def stages_of(given, proofs, room):
 
 
 def tell(runner, proofs, began):
-    """Says at the end what it cost, and what failed."""
+    """Prints the costs at the end, and each failure."""
     checks = [*proofs.checks.values()]
     if checks:
         print(costs.brief(checks))
@@ -111,7 +111,7 @@ def main():
     os.chdir(sources.TOP)
     given, began = arguments(), time.time()
     if not given.quick:
-        # What would let cargo build sooner a second time takes 2 GB of a disk that proofs need.
+        # The files that would let cargo build sooner a second time take 2 GB of a disk that proofs need.
         os.environ.setdefault("CARGO_INCREMENTAL", "0")
     proofs = proofs_of(given)
     with tempfile.TemporaryDirectory(prefix="sm-test-") as room:

@@ -1,4 +1,5 @@
-"""What ./dist packs passes: it is the same bytes each time, and works where nothing of the toolchain is."""
+"""The part of ./test for the packages of ./dist: they have the same bytes each time, and work on a machine without the
+toolchain."""
 import os
 import pathlib
 import re
@@ -17,14 +18,14 @@ from testing import library
 from testing.part import Verdict, verdict
 from testing.program import EXAMPLES, fault_of, tool
 
-# Where the programs of an empty environment are looked for: nothing of the toolchain is there.
+# The path of programs in an empty environment: nothing of the toolchain is there.
 PLAIN = "/usr/bin:/bin"
-# What tries a part of what is packed, each its own.
+# The programs that try a part of the packages, each its own part.
 USED = ("dpkg-deb", "lintian", "man", "bash", "zsh", "fish", "systemd-analyze", "strace")
 
 
 def skipped(say):
-    """Says what isn't tried, for want of what."""
+    """Prints which part isn't tried, because which program is missing."""
     if not shutil.which("cargo") or not other_crates.has_crates():
         say("no cargo, or no crates: nothing is packed; tools/setup installs them")
         return
@@ -54,7 +55,8 @@ def unpacked(folder, into):
 
 
 def with_libraries(tree):
-    """Copies into the tree what its programs load of the system; returns how a program in it is run."""
+    """Copies into the tree the system's libraries that its programs load; returns the words that run a program in
+    it."""
     if os.geteuid():
         return lambda name: ["env", "-i", tree / "bin" / name]
     for program in (tree / "bin").iterdir():
@@ -63,19 +65,19 @@ def with_libraries(tree):
             copy = tree / path.lstrip("/")
             copy.parent.mkdir(parents=True, exist_ok=True)
             shutil.copy(path, copy)
-    # The sanitizer in what isn't proved looks there for its own name.
+    # The sanitizer in programs without proof looks there for its own name.
     (tree / "proc/self").mkdir(parents=True)
     (tree / "proc/self/exe").symlink_to("/bin/sm_cli")
     return lambda name: ["env", "-i", shutil.which("chroot"), tree, f"/bin/{name}"]
 
 
 def version_of(how):
-    """The version that is told of what is packed so."""
+    """Returns the version of packages that are made in this way."""
     return made.VERSION + (made.UNPROVED if how == "unproved" else "")
 
 
 def programs(tree, room, how):
-    """Each program does its first example, with no file but its own and what it loads."""
+    """Each program runs its first example, with only its own files and the libraries that it loads."""
     command = with_libraries(tree)
     for script in [it for it in EXAMPLES.glob("*.in") if it.stem in ("first-path", "migration")]:
         output = script.with_suffix(".out").read_bytes()
@@ -88,7 +90,7 @@ def programs(tree, room, how):
 
 
 def served_fault(command, room):
-    """What goes wrong where a client writes and reads while a shard moves, or None."""
+    """Returns the fault that a client finds as it writes and reads while a shard moves, or None."""
     sys.path.insert(0, str(sources.TOP / "server/tests"))
     from served import served
 
@@ -138,7 +140,7 @@ def of_wheel(wheel, room):
 
 
 def pages(tree, room):
-    """The manual pages set without a warning; the shells read the completions, which find what is wanted."""
+    """The manual pages set without a warning; the shells read the completions, which find the wanted words."""
     if shutil.which("man"):
         for page in sorted((tree / "share/man/man1").glob("*.1")):
             words = ["man", "--warnings", "-E", "UTF-8", "-l", "-Tutf8", "-Z", page]
@@ -154,7 +156,7 @@ def pages(tree, room):
 
 
 def deployed(tree, room):
-    """What a cluster's machines are installed by works as its page says."""
+    """The files that install a cluster's machines work as their page says."""
     words = ["make", "-C", tree / "share/doc/durkenzo/deploy", "install", f"DESTDIR={room}/deployed"]
     yield library.ran("what installs a cluster, packed", words, room)
 
@@ -177,7 +179,7 @@ def completions(tree):
         "complete -C 'sm_cli threads --e' | cut -f 1; complete -C 'durkenzo-server --log-format ' | cut -f 1",
         ["--explain", "json", "text"],
     )
-    # What zsh completes is drawn by its line editor; without one it says whether it can read them.
+    # zsh's line editor draws the completions; without it, zsh only says whether it can read them.
     yield ("zsh", f"for file in {share}/zsh/site-functions/_*; do zsh -n $file || exit 1; done", [])
 
 
@@ -211,8 +213,8 @@ def are_proved():
 
 
 def passed(wanted):
-    """All of it, of what was proved, where all of that is there, or of what is built without proof; nothing where cargo or
-    crates aren't."""
+    """Yields all parts, for proved packages if all proved files are there, or for packages without proof; nothing if
+    cargo or crates are missing."""
 
     def work(room):
         how = "proved" if wanted == "proved" and are_proved() else "unproved"

@@ -1,10 +1,10 @@
-"""A part of ./test, and what it finds."""
+"""A part of ./test, and the faults that it finds."""
 from collections import namedtuple
 
-# A part: its name, and what it does: `work(room)`, a folder of its own, gives a Verdict for each thing that it tries;
-# and whether it goes first, as what runs there has to answer in time: other parts leave processors to it.
+# A part: its name, and its work: `work(room)`, given a folder of its own, yields a Verdict for each thing that it
+# tries; and whether it goes first, because its programs must answer in time. Other parts leave processors to it.
 Part = namedtuple("Part", "name work goes_first", defaults=[False])
-# What was tried, and why it failed; no reason where it passed.
+# The thing that was tried, and why it failed; no reason if it passed.
 Verdict = namedtuple("Verdict", "name reason")
 
 
@@ -13,5 +13,5 @@ def passed(name):
 
 
 def verdict(name, is_well, reason="it isn't so"):
-    """What was tried, and whether it is well."""
+    """Returns the verdict on the thing that was tried."""
     return Verdict(name, None if is_well else reason)

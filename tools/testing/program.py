@@ -1,4 +1,4 @@
-"""What a built program sm_cli passes: examples on both engines, exit statuses, and the tools that run it."""
+"""The part of ./test for a built program sm_cli: examples on both engines, exit statuses, and the tools that run it."""
 import os
 import pathlib
 import re
@@ -17,8 +17,8 @@ SECONDS, TOOL_SECONDS = 600, 3600
 
 
 def fault_of(command, status, output, complaint="", given=os.devnull, env=None):
-    """Runs a command, and says what is wrong with it, or nothing: its exit status, the whole of what it writes, or
-    that its standard error lacks these words (none: isn't empty)."""
+    """Runs a command, and returns its fault, or nothing: its exit status, its whole output, or that its standard error
+    lacks these words (none: isn't empty)."""
     with open(given, "rb") as stream:
         ran = runs.finished(command, stdin=stream, cwd=sources.TOP, env=env)
     said = ran.complaint.decode(errors="replace")
@@ -50,7 +50,7 @@ def status_of(script):
 
 
 def wanted_on_threads(script):
-    """What threads write for an example of the model: a line of load runs there alone, and isn't given."""
+    """Returns the output of threads for an example of the model: a line of load runs only there, and isn't given."""
     return script.with_suffix(".out").read_bytes().replace(b"error NotHere\n", b"")
 
 
@@ -120,14 +120,15 @@ class Program:
             yield Verdict(f"settings of {MAX_SETTINGS + 1} bytes on {engine}", refused)
 
     def explained(self, engine, script):
-        """What the program says of a script's refused lines and settings, and on threads its table of counts."""
+        """Returns the program's sentences about a script's refused lines and settings, and on threads its table of
+        counts."""
         with open(EXAMPLES / script, "rb") as stream:
             ran = runs.finished([self.path, engine, "--explain"], stdin=stream)
         return ran.complaint.decode(errors="replace").partition("server  answered")
 
     def explanations(self, _room):
-        """What --explain says is the same on both engines; the table behind a migration on threads is the one of
-        docs/SCRIPT.md."""
+        """The sentences of --explain are the same on both engines; the table behind a migration on threads is the one
+        of docs/SCRIPT.md."""
         for script in ("malformed-words.in", "task-approvals.in", "bad-kept.in"):
             alike = self.explained("model", script)[0] == self.explained("threads", script)[0]
             yield verdict(
@@ -168,7 +169,7 @@ class Program:
         yield tool("full-size", self.path)
 
     def memory(self, _room):
-        """Each allocation refused in turn, and what a line takes of memory."""
+        """Each allocation is refused in turn, and the memory of a line is counted."""
         few = [EXAMPLES / f"{it}.in" for it in ("bad-kept", "migration", "threads/loads")]
         more = [
             EXAMPLES / f"{it}.in" for it in ("bad-kept", "long-lines", "migration", "moved-memory", "texts-and-scans")
@@ -197,13 +198,13 @@ class Program:
             yield Verdict(f"{name} under valgrind", found)
 
     def drawn(self, script, engine="model"):
-        """What tools/picture draws of an example, and what it says."""
+        """Returns the picture that tools/picture draws of an example, and its messages."""
         command = [sources.TOP / "tools/picture", "--engine", engine, "--program", self.path, EXAMPLES / f"{script}.in"]
         return runs.finished(command)
 
     def pictures(self, _room):
-        """The pictures in docs/ are those of their scripts; the bars of a failed server execute nothing; racks are shown
-        where they have several servers; and no caption is cut."""
+        """The pictures in docs/ are those of their scripts; the bars of a failed server execute nothing; racks are
+        shown if they have several servers; and no caption is cut."""
         for script, engine in (
             ("migration", "model"),
             ("rolling-restart", "model"),
@@ -229,12 +230,12 @@ class Program:
         )
 
     def shell_said(self, lines, *options):
-        """What the shell writes for these lines."""
+        """Returns the output of the shell for these lines."""
         command = [sources.TOP / "tools/shell", "--program", self.path, *options]
         return runs.finished(command, input="".join(f"{it}\n" for it in lines).encode()).output.decode(errors="replace")
 
     def shell(self, room):
-        """What ./sm shell sends by itself is answered as wanted, and what it saves runs again."""
+        """The lines that ./sm shell sends by itself get the wanted answers, and the lines that it saves run again."""
         lines = [
             "assign 0 1",
             "put a x",
@@ -272,7 +273,7 @@ class Program:
         yield verdict("the shell's restart goes on", is_well, said)
 
     def shell_explains(self):
-        """After a line that is refused the shell tells why, how the shard stands and what to do."""
+        """After a line that is refused the shell says why, shows the shard's stand and gives advice."""
         told = {
             "asign 0 1": 'why: unknown word "asign"; did you mean assign?',
             "servers": "try: help lists the words",
@@ -289,7 +290,7 @@ class Program:
         yield verdict("too many workers in the shell", "65 workers, and threads runs 64" in many, many)
 
     def shell_spreads(self):
-        """Under --spread what place! and then drain! of a server carry out is even."""
+        """Under --spread, the moves of place! and then drain! of a server leave an even load."""
         for server in ("1", "2", "3"):
             said = self.shell_said(["place!", f"drain! {server}"], "--spread", "--servers", "4", "--shards", "10")
             owned = [[int(it) for it in re.findall(r"owns (\d+)", line)] for line in said.split("\n") if "owns" in line]

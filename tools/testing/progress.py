@@ -1,5 +1,5 @@
-"""Says how far a run is: what runs, how many of how many parts are done, the minutes passed, and an estimate of those
-left.
+"""Says how far a run is: the parts that run, how many of how many parts are done, the minutes passed, and an estimate
+of those left.
 
 On a terminal it is one line that changes; elsewhere, as in CI, a line a minute.
 """
@@ -12,8 +12,8 @@ SHOWN = 4
 
 
 class Progress:
-    """`load` tells the names of what runs, the parts done and all of them, and the seconds left, as `Runner.load`
-    does."""
+    """`load` returns the names of the parts that run, the parts done and all of them, and the seconds left, as
+    `Runner.load` does."""
 
     def __init__(self, load, out=sys.stdout):
         self.load, self.out, self.began = load, out, time.time()

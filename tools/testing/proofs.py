@@ -1,4 +1,4 @@
-"""The part of ./test that proves: `rt ci`, with what it says read as it comes, and what each crate costs."""
+"""The part of ./test that proves: `rt ci`, whose output is read as it comes, and the cost of each crate."""
 import collections
 import contextlib
 import pathlib
@@ -21,7 +21,7 @@ SHOWN = 40
 ENDED = re.compile(r"^rt: (\w+)(: its tests are)? (proved|NOT PROVED|is kept.*)$")
 EDIT = re.compile(r"^rt: (must-fail \S+): (.*)$")
 REFUSED = "refused, as it must be"
-# What failed once all is proved: programs and tests that ran.
+# The programs and tests that failed when they ran, after all was proved.
 RAN = re.compile(r"\S+ \((?:run|tests)\)")
 LAST = re.compile(r"^(\d+) passed, (\d+) failed")
 
@@ -37,7 +37,7 @@ class Proofs:
         self.last, self.has_failed = collections.deque([""], SHOWN), False
         self.say, self.doubted = print, set()
 
-    # What Runner.load asks.
+    # Returns the answer to Runner.load.
 
     def running(self):
         return sorted({f"{it.crate} ({it.part})" for it in [*self.now]})
@@ -49,12 +49,14 @@ class Proofs:
         return len(self.proved) + sum(min(self.tried(it), len(edits_of(it))) for it in self.crates)
 
     def tried(self, crate):
-        """How many of the crate's edits were tried: the first check of several makes what the others begin with."""
+        """Returns how many of the crate's edits were tried. If several checks run, the first one makes the base from
+        which the others begin."""
         over = [it for it in [*self.checks.values()] if it.crate == crate and it.part == "edits" and it not in self.now]
         return len(over) if len(edits_of(crate)) == 1 else max(len(over) - 1, 0)
 
     def left(self):
-        """The processor seconds left by the costs of the last run, less what was spent where a crate is under way."""
+        """Returns the processor seconds left by the costs of the last run, less the seconds that were spent on crates
+        that are under way."""
         seconds = 0
         for crate in self.crates:
             cost = self.known.get(crate, costs.Cost(60, 60, 1, 120))
@@ -67,7 +69,7 @@ class Proofs:
             seconds += 0 if is_tried else max(cost.edits - spent["edits"], 0)
         return seconds
 
-    # What it does.
+    # Runs the part.
 
     def work(self, room):
         """Runs `rt ci`, and gives a verdict for each crate, must-fail edit and program as it says so."""
@@ -95,8 +97,8 @@ class Proofs:
         self.now = []
 
     def doubt(self, check):
-        """Says early which edit is likely to fail. `rt ci` tells at its end, but tries one that wasn't refused once more
-        from nothing, where others go on from a base."""
+        """Says early which edit is likely to fail. `rt ci` says so at its end, but tries an edit that wasn't refused
+        once more from nothing, while others go on from a base."""
         edits = edits_of(check.crate)
         if check.part == "edits" and not check.goes_on and len(edits) > 1 and check not in self.doubted:
             self.doubted.add(check)
@@ -104,7 +106,7 @@ class Proofs:
             self.say(f"{check.crate}: {' or '.join(names)} is tried once more, likely as it was not refused")
 
     def read(self, line):
-        """Gives what a line of `rt ci` says to have passed or failed."""
+        """Yields the verdicts of a line of `rt ci`."""
         self.block.append(line)
         self.last.append(line)
         if line.startswith("== "):
@@ -129,7 +131,7 @@ class Proofs:
 
 
 def stands_in(edit, folder):
-    """Whether a copy of the crate has what the edit writes."""
+    """Returns whether a copy of the crate has the new text of the edit."""
     lines = [it.split(": ", 1) for it in edit.read_text(encoding="utf-8").splitlines() if ": " in it]
     files, news = [it for kind, it in lines if kind == "file"], [it for kind, it in lines if kind == "new"]
     with contextlib.suppress(OSError):

@@ -1,4 +1,4 @@
-"""What a run of proofs cost: the sums, the longest tasks, what an edit costs, and how long processors idled."""
+"""The costs of a run of proofs: the sums, the longest tasks, the cost of an edit, and how long processors idled."""
 import collections
 import os
 import textwrap
@@ -44,7 +44,7 @@ def idle(found):
 
 
 def lines(found):
-    """Returns what there is to say of these checks, a line each."""
+    """Returns the text about these checks, a line each."""
     if not found:
         return ["No check of the prover was seen."]
     sums, passed = collections.Counter(), max(it.ended for it in found) - min(it.began for it in found)

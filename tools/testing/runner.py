@@ -1,4 +1,4 @@
-"""Runs the parts of ./test in their stages, says at once what fails, and counts."""
+"""Runs the parts of ./test in their stages, prints each failure at once, and counts."""
 import concurrent.futures
 import os
 import tempfile
@@ -11,7 +11,7 @@ from testing.progress import Progress
 
 # Seconds of a part of which the table of costs knows nothing yet.
 UNKNOWN = 20
-# How nice is what leaves processors to the parts that go first.
+# How nice a part is that leaves processors to the parts that go first.
 NICE = 10
 
 
@@ -20,8 +20,8 @@ def processors():
 
 
 def give_way():
-    """Has what this thread starts from here on be nice to all else. Linux has that of a thread, and gives it to the
-    processes that the thread starts."""
+    """Makes all processes that this thread starts from here on nice to all others. Linux keeps the niceness of a
+    thread, and gives it to the processes that the thread starts."""
     os.nice(NICE)
 
 
@@ -30,7 +30,7 @@ class FirstFailure(Exception):
 
 
 class Runner:
-    """A run: its stages, each a list of parts that run side by side, one a processor; and what they came to."""
+    """A run: its stages, each a list of parts that run side by side, one on each processor; and their results."""
 
     def __init__(self, stages, proofs, is_fail_fast):
         self.stages, self.proofs, self.is_fail_fast = stages, proofs, is_fail_fast
@@ -58,7 +58,7 @@ class Runner:
             raise FirstFailure
 
     def run_part(self, part):
-        """Runs a part, and says what it came to in one line."""
+        """Runs a part, and prints its result in one line."""
         if self.stopped.is_set():
             return
         began = self.running[part.name] = time.time()
@@ -75,7 +75,7 @@ class Runner:
         return [self.judged(part.name, it) for it in self.verdicts(part)]
 
     def verdicts(self, part):
-        """Gives what the part finds; one that ends by an error has failed."""
+        """Yields the findings of the part; a part that ends with an error has failed."""
         with tempfile.TemporaryDirectory(prefix="sm-test-") as room:
             try:
                 yield from part.work(room)
@@ -83,7 +83,7 @@ class Runner:
                 yield Verdict(part.name, f"{type(error).__name__}: {error}")
 
     def judged(self, part, verdict):
-        """Counts a verdict, says at once what failed, and returns whether it passed."""
+        """Counts a verdict, prints a failure at once, and returns whether it passed."""
         with self.turn:
             if verdict.reason is None:
                 self.passed += 1
@@ -96,8 +96,8 @@ class Runner:
         return False
 
     def load(self):
-        """What runs, the parts done and all of them, and the seconds left: a proof and a must-fail edit count as
-        parts of their own."""
+        """Returns the parts that run, the parts done and all of them, and the seconds left: a proof and a must-fail
+        edit count as parts of their own."""
         names = [part.name for _, parts in self.stages for part in parts if part.name != self.proofs.name]
         undone = [it for it in names if it not in self.seconds]
         left = sum(self.known[it].whole if it in self.known else UNKNOWN for it in undone) + self.proofs.left()

@@ -1,5 +1,5 @@
-"""What the server for Redis clients passes, over the libraries of tools/testing/library.py: its unit tests, and the
-scripts of server/tests/ over a server that runs."""
+"""The part of ./test for the server for Redis clients, over the libraries of tools/testing/library.py: its unit tests,
+and the scripts of server/tests/ over a running server."""
 import pathlib
 import shutil
 import subprocess
@@ -40,13 +40,13 @@ def python_with_redis():
 
 
 def lacking():
-    """What this machine lacks for the scripts."""
+    """Returns the programs that the scripts need and that this machine lacks."""
     found = [it for it in REDIS if not shutil.which(it)]
     return found if python_with_redis() else [*found, "python3-redis"]
 
 
 def skipped(say):
-    """Says what isn't tried, for want of what."""
+    """Prints which part isn't tried, because which program is missing."""
     if not shutil.which("cargo"):
         say("cargo isn't installed: the server for Redis clients isn't tried")
     elif not other_crates.has_crates():
@@ -60,7 +60,7 @@ def skipped(say):
 
 
 def verdicts_of(lines):
-    """Gives what a script of tests says, a verdict for each."""
+    """Yields a verdict for each line of a script of tests."""
     name, reason = None, []
     for line in [*lines, ""]:
         if name and not line.startswith(REASON):
@@ -75,7 +75,7 @@ def verdicts_of(lines):
 
 
 def said_by(script, python, program):
-    """What a script finds of the program; that it finds nothing is a failure."""
+    """Returns the findings of a script about the program; if it finds nothing, that is a failure."""
     ran = runs.finished([python, FOLDER / "tests" / f"{script}.py", program], SCRIPT_SECONDS)
     found = list(verdicts_of(ran.output.decode(errors="replace").splitlines()))
     yield from found
@@ -84,7 +84,7 @@ def said_by(script, python, program):
 
 
 def installed(room):
-    """What `make install` puts into a folder."""
+    """Checks the files that `make install` puts into a folder."""
     root, unit = f"{room}/root", f"{room}/root/etc/systemd/system/durkenzo.service"
     ran = runs.finished(["make", "-C", FOLDER, "install", f"DESTDIR={root}", "PREFIX=/usr"])
     yield verdict("make install of the server", not ran.status, ran.complaint.decode(errors="replace"))
@@ -108,7 +108,7 @@ def compiled(_room):
 
 
 def passed(room):
-    """All of it; nothing where the library wasn't built, or cargo or other people's crates aren't there."""
+    """Yields all parts, or nothing if the library wasn't built, or if cargo or other people's crates aren't there."""
     serve = runs.loaded("serve")
     if not library.is_there() or not shutil.which("cargo") or not other_crates.has_crates():
         return
@@ -121,7 +121,7 @@ def passed(room):
         yield Verdict("the server is built", str(missing))
         return
     yield workspace.ran("the server's unit tests", "test", "--release", *workspace.of([PACKAGE]))
-    # What drives proved servers of a store, over stores that don't tell all, and what leads them.
+    # The driver of proved servers of a store, over stores that lose messages, and the control that leads them.
     yield workspace.ran("tests below the server", "test", *workspace.of(["durkenzo-driver", "durkenzo-control"]))
     yield workspace.ran("tests of fleets", "test", *workspace.of(["durkenzo-fleet"]))
     if shutil.which("cargo-clippy"):

@@ -1,5 +1,5 @@
-"""What schedules of chance over the driver and the control of a shared store find, as they ship: nothing, and each
-planted bug."""
+"""The part of ./test for random schedules of the simulator over the driver and the control of a shared store, as they
+ship: they must find no fault, and each planted bug."""
 import shutil
 import subprocess
 import xml.etree.ElementTree
@@ -13,8 +13,12 @@ from testing.program import tool
 
 BINDINGS = ("-p", "durkenzo-store-sys", "--features", "permits")
 SIMULATION = ("-p", "simulation", "--release")
-# The same schedules on each machine, so that none finds what another one doesn't. They take 25 s of a processor.
+# The same schedules on each machine, so that all machines find the same. They take 25 s of a processor.
 LIMITS = ("--seed", "1", "--schedules", "10000", "--seconds", "900")
+# Those of a fleet take eight times as long each, so that there are fewer.
+FLEETS = ("--part", "fleet", "--seed", "1", "--schedules", "2000", "--seconds", "900")
+# Those of a store in a folder take 8 ms each.
+FOLDERS = ("--part", "folder", "--seed", "1", "--schedules", "1000000", "--processor-seconds", "30", "--seconds", "300")
 # For how many seconds of a processor further ones are tried, and for how many of time at most.
 NEW_SECONDS, NEW_TIME = "180", "900"
 # More schedules than are tried in that time, so that no seed comes twice.
@@ -33,7 +37,7 @@ def new_seed():
 
 
 def drawn():
-    """The verdict on the picture of a schedule: it is XML, and says what became of the law."""
+    """Returns the verdict on the picture of a schedule: it must be XML, and say whether the law was broken."""
     command = [str(sources.TOP / "tools/picture"), "--schedule", DRAWN]
     how = {"capture_output": True, "text": True, "stdin": subprocess.DEVNULL, "check": False}
     ran = subprocess.run(command, env=other_crates.environment(), **how)
@@ -52,6 +56,8 @@ def passed(_room):
     yield workspace.ran("the bindings of a store's calls", "test", *BINDINGS)
     yield workspace.ran("planted bugs are found", "test", *SIMULATION)
     yield workspace.ran("schedules of chance keep the law", "run", "--quiet", *SIMULATION, "--", *LIMITS)
+    yield workspace.ran("those of a fleet do", "run", "--quiet", *SIMULATION, "--", *FLEETS)
+    yield workspace.ran("those of a store in a folder do", "run", "--quiet", *SIMULATION, "--", *FOLDERS)
     seed = str(new_seed())
     limits = ("--seed", seed, "--schedules", str(APART), "--processor-seconds", NEW_SECONDS, "--seconds", NEW_TIME)
     yield workspace.ran(f"new ones from seed {seed} on do", "run", "--quiet", *SIMULATION, "--", *limits)

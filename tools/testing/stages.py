@@ -1,4 +1,4 @@
-"""The parts of ./test in their stages: what is cheap first, then the proofs, then what was proved."""
+"""The parts of ./test in their stages: cheap parts first, then the proofs, then the proved programs."""
 import re
 import shutil
 
@@ -33,6 +33,8 @@ DOCS = (
     "library-codes",
     "licences",
     "names",
+    "pictures",
+    "plain",
     "readers",
     "version",
 )
@@ -73,7 +75,7 @@ def below(crates):
 
 
 def pages():
-    """The layout of all sources, what the docs say of them, and the tools that fill their tables."""
+    """The layout of all sources, the docs' statements about them, and the tools that fill their tables."""
     docs = Part("docs", lambda _room: map(tool, DOCS))
     return [Part("layout", layout.laid_out), docs, Part("benches", benches.passed)]
 
@@ -91,7 +93,7 @@ def soaked(room):
 
 
 def ordinary_rust():
-    """What needs no library, and what is said where there is none."""
+    """The parts that need no library, and the message if there is none."""
     return [Part("ordinary Rust", alone.passed, goes_first=True), Part("crates without a library", unlinked.passed)]
 
 
@@ -110,8 +112,8 @@ def unproved_program(room):
 
 
 def quick_program(room, say):
-    """What tells most of a change of a page or a script in few minutes. The sanitizer's memory can't be refused from
-    outside, so that is tried on what is proved."""
+    """The parts that say the most about a change of a page or a script in few minutes. The sanitizer's memory can't be
+    refused from outside, so that is tried on the proved programs."""
     packed.skipped(say)
     path = f"{room}/sm_cli"
     program = Program(path, "unproved")
@@ -130,8 +132,8 @@ def quick_program(room, say):
 
 
 def when_built(path, parts):
-    """These parts, of which each finds nothing where the program wasn't built: that it has to be is a part of its
-    own."""
+    """Returns these parts, each of which finds nothing if the program wasn't built: a part of its own says that it must
+    be."""
 
     def guarded(work):
         return lambda room: work(room) if path.exists() else []
@@ -140,7 +142,7 @@ def when_built(path, parts):
 
 
 def on_program(path, how):
-    """What each of the two builds of the proved program passes."""
+    """The parts for each of the two builds of the proved program."""
     program = Program(path, how)
     parts = [
         Part(f"spoilt scripts, {how}", program.spoilt(every=37, count=500, every_on_threads=370, on_threads=50)),
@@ -154,7 +156,7 @@ def on_program(path, how):
 
 
 def faults(say):
-    """What takes more than the program: a C compiler, to make calls fail, and valgrind."""
+    """The parts that need more than the program: a C compiler, to make calls fail, and valgrind."""
     program, parts = Program(PROVED, "proved"), []
     if shutil.which("cc"):
         parts += [
@@ -173,8 +175,8 @@ def faults(say):
 
 
 def program(_room):
-    """What the proofs built. `rt ci` may have taken over a program that it built before; it is as new as
-    its sources all the same, which is how ./sm sees that it is proved."""
+    """The results of the proofs. `rt ci` may have kept a program that it built before. It is as new as its sources all
+    the same, and by that ./sm sees that it is proved."""
     yield verdict(f"{PROVED.name} was proved and built", PROVED.exists())
     if PROVED.exists():
         PROVED.touch()

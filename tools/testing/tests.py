@@ -7,12 +7,12 @@ import sources
 from testing.part import Verdict, passed
 
 PASSED = re.compile(r"^test_(\w+): (\d+) passed")
-# What ran again: tests of which each allocation was refused, and tests that may leave no memory.
+# The tests that ran again: tests with each allocation refused, and tests that may leave no memory.
 AGAIN = re.compile(r"^(\S+: each of its \d+ allocations refused|\d+ tests of arenas ran again)")
 FAILED = "FAILED: "
-# Lines below one that says what failed tell why.
+# Lines below the name of a failure say why.
 REASON = "    "
-# As many lines are shown where it ended otherwise.
+# How many lines are shown if it ended in another way.
 LAST = 20
 
 

@@ -1,5 +1,5 @@
-"""What cargo says of the library's crates where there is no library to link: which tool makes one, at once. It proves
-nothing, and writes nothing beside its own folder."""
+"""Checks the message of cargo about the library's crates if there is no library to link: it must say at once which tool
+makes one. It proves nothing, and writes only in its own folder."""
 import os
 import pathlib
 import shutil
@@ -15,13 +15,13 @@ NAMED = "DURKENZO_LIB"
 # As long as a crowded machine may take to compile a build script.
 SECONDS = 1200
 MADE = ("tools/unproved --library", f"export {NAMED}=")
-# What would prove leaves a file.
+# A prover that only leaves a file if it is called.
 PROVER = '#!/bin/sh\ntouch "${0%/*}/was-called"\nexit 1\n'
 OTHER_TARGET = "aarch64-unknown-linux-gnu"
 
 
 class Copy:
-    """The crates in a repository where nothing was built, with an `rt` that tells whether it was called."""
+    """The crates in a repository in which nothing was built, with an `rt` that notes whether it was called."""
 
     def __init__(self, room):
         self.top, self.bin, self.target = room / "top", room / "bin", room / "target"
@@ -47,7 +47,7 @@ class Copy:
 
 
 def refused(copy, crate, name, wanted, *words, **env):
-    """The verdict on a check that has to be refused by words that name what is wanted."""
+    """Returns the verdict on a check that must be refused with words that name the wanted thing."""
     ran = copy.checked(crate, *words, **env)
     lacking = [it for it in wanted if it not in ran.stderr]
     why = f"it ended with {ran.returncode} and doesn't say {lacking}:\n{ran.stderr[-2000:]}"
@@ -68,7 +68,7 @@ def verdicts(copy, empty):
 
 
 def passed(room):
-    """All of it; nothing where cargo isn't."""
+    """Yields all parts, or nothing if cargo is missing."""
     if not shutil.which("cargo"):
         return
     room = pathlib.Path(room)

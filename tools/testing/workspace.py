@@ -1,8 +1,8 @@
-"""Runs of cargo in the workspace that have to end with 0."""
+"""Runs of cargo in the workspace, which must end with 0."""
 import other_crates
 from testing.part import verdict
 
-# As much of what a failed run wrote is told.
+# How much of a failed run's output is printed.
 TOLD = 2000
 
 
@@ -17,8 +17,8 @@ def clippy(*words):
 
 
 def ran(name, *words, wanted=None):
-    """The verdict on a run of cargo over the libraries that are there: it has to end with 0, and write what is
-    wanted."""
+    """Returns the verdict on a run of cargo over the libraries that are there: it must end with 0, and write the wanted
+    output."""
     done = other_crates.cargo(*words)
     is_well = done.returncode == 0 and wanted in (None, done.stdout)
     return verdict(name, is_well, f"{done.stdout[-TOLD:]}{done.stderr[-TOLD:]}")

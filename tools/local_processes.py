@@ -1,10 +1,10 @@
-"""Members of etcd and servers of a cluster on this machine: each a process of its own, with its data and its log in a
-folder.
+"""Members of etcd and servers of a cluster on this machine. Each is a process of its own, with its data and its log in
+a folder.
 
     with Fleet(folder, program, members=3, servers=3) as fleet: ..
 
-begins all of them, and ends all of them however the body ends. What has to be between two of them, as a relay that cuts
-and delays, takes the place of the addresses that `Fleet.between` gives.
+starts all of them, and ends all of them however the body ends. If something must be between two of them, such as a
+relay that cuts and delays, it takes the place of the addresses that `Fleet.between` gives.
 """
 import base64
 import contextlib
@@ -27,18 +27,18 @@ import served
 HOST = "127.0.0.1"
 # How long a process may take until it answers, and until it ends.
 SECONDS = 90
-# Of a log, where a process ended too soon.
+# The lines of a log that are printed if a process ended too soon.
 LINES = 12
-# prctl's: a process ends by this signal with the one that started it, whatever ended that.
+# prctl's number: by it a process ends with this signal when its parent ends, whatever ended that.
 PARENT_DEATH = 1
 
 
 class NotBegun(Exception):
-    """Something isn't installed, a port is taken, or a process ended before it answered; the text says what to do."""
+    """Something isn't installed, a port is taken, or a process ended before it answered; the text gives advice."""
 
 
 def is_free(port):
-    """Whether nobody listens at this port."""
+    """Returns whether nobody listens at this port."""
     with socket.socket() as tried:
         # A connection that ended a moment ago doesn't keep a server from it.
         tried.setsockopt(socket.SOL_SOCKET, socket.SO_REUSEADDR, 1)
@@ -50,7 +50,7 @@ def is_free(port):
 
 
 def ended_with_us():
-    """Has the process that is about to begin end with this one."""
+    """Makes the process that is about to start end with this one."""
     ctypes.CDLL(None).prctl(PARENT_DEATH, signal.SIGKILL)
 
 
@@ -62,7 +62,7 @@ class Process:
         self.env, self.run, self.is_wanted = env or {}, None, False
 
     def begin(self):
-        """Begins it, behind what its log has already. It must be called by a thread that outlives it."""
+        """Starts it, and appends to its log. Must be called by a thread that outlives the process."""
         env = {**os.environ, **self.env}
         with open(self.log, "ab") as log:
             how = {"stdin": subprocess.DEVNULL, "stdout": log, "stderr": log, "env": env}
@@ -86,7 +86,7 @@ class Process:
             self.run.wait()
 
     def stop(self):
-        """Asks it to end, and ends it where that takes long."""
+        """Asks it to end, and kills it if that takes long."""
         self.is_wanted = False
         self.signal(signal.SIGCONT)
         self.signal(signal.SIGTERM)
@@ -122,7 +122,7 @@ class Member(Process):
         super().__init__(f"etcd-{number}", [], folder / f"etcd-{number}.log")
 
     def join(self, program, members):
-        """Says which members there are, each with where others reach it."""
+        """Returns the list of members, each with its address for others."""
         every = ",".join(f"{it.name}=http://{HOST}:{it.peer_at}" for it in members)
         words = {
             "name": self.name, "data-dir": self.data, "listen-client-urls": self.client,
@@ -133,7 +133,7 @@ class Member(Process):
         self.command = [str(program), *named, *self.options]
 
     def ask(self, path, asked, seconds=SECONDS):
-        """What its gateway answers to this; OSError where it doesn't, and what it refuses as it says it."""
+        """Returns the answer of its gateway, also if that is a refusal; raises OSError if there is none."""
         connection = http.client.HTTPConnection(HOST, self.port, timeout=seconds)
         try:
             connection.request("POST", path, json.dumps(asked), {"Content-Type": "application/json"})
@@ -144,7 +144,7 @@ class Member(Process):
             connection.close()
 
     def is_up(self):
-        """Whether it reads, for which most members have to agree."""
+        """Returns whether it reads; for that, most members must agree."""
         with contextlib.suppress(OSError):
             return "header" in self.ask("/v3/kv/range", {"key": text(b"up")}, 2)
         return False
@@ -174,7 +174,7 @@ class Server(Process):
         return False
 
     def has_owners(self):
-        """Whether it knows where clients reach the owner of each shard."""
+        """Returns whether it knows the address of each shard's owner."""
         with contextlib.suppress(OSError, served.Refused), self.client() as client:
             return not any(it.endswith(b"-") for it in client.ask("SM", "ROUTES"))
         return False
@@ -184,9 +184,9 @@ class Fleet:
     """Members of etcd, and servers over them."""
 
     def __init__(self, folder, program=None, members=3, servers=3, **how):
-        """`port` is the first server's for clients, the next one's the next, and 0 takes free ones; `options` go to each
-        server and `etcd_options` to each member; `env` gives a server's environment by its number, `relays` have what
-        stands before a port, and `etcd` is another program of it."""
+        """`port` is the first server's for clients, the next one's the next, and 0 takes free ones; `options` go to
+        each server and `etcd_options` to each member; `env` gives a server's environment by its number, `relays` are
+        the relays before ports, and `etcd` is another program of it."""
         self.folder, self.program, port = pathlib.Path(folder), program, how.get("port", 0)
         self.options, self.count, self.env = how.get("options", ()), servers, how.get("env", lambda number: {})
         ports = iter(served.free_ports(2 * members + 2 * servers))
@@ -197,6 +197,8 @@ class Fleet:
             for it in range(members)
         ]
         self.servers, self.relays, self.etcd = [], how.get("relays"), how.get("etcd", "etcd")
+        # Servers more than there were at first, which come and go.
+        self.joined = []
         self.stack = contextlib.ExitStack()
 
     def __enter__(self):
@@ -230,7 +232,7 @@ class Fleet:
             self.begin_servers()
 
     def begin_servers(self):
-        at = [self.between(f"to server-{it + 1} from servers", port) for it, port in enumerate(self.peer_ports)]
+        at = [self.peer_at(number) for number in range(1, self.count + 1)]
         self.servers = [self.server(number, at[number - 1]) for number in range(1, self.count + 1)]
         for it in self.servers:
             self.run(it, it.stop)
@@ -238,6 +240,21 @@ class Fleet:
             it.wait(it.is_up)
         for it in self.servers:
             it.wait(it.has_owners)
+
+    def peer_at(self, number):
+        """Returns the address of the server of this number for others."""
+        return self.between(f"to server-{number} from servers", self.peer_ports[number - 1])
+
+    def joining(self):
+        """Returns one more server, which hasn't started, and which the fleet's end ends. The settings must name it
+        before it starts."""
+        for ports, port in zip((self.client_ports, self.peer_ports), served.free_ports(2)):
+            ports.append(port)
+        number = len(self.client_ports)
+        made = self.server(number, self.peer_at(number))
+        self.stack.callback(made.kill)
+        self.joined.append(made)
+        return made
 
     def run(self, process, end):
         """Begins a process, which the fleet's end ends so: a member waits long for others that are gone."""
@@ -252,8 +269,9 @@ class Fleet:
         members = [self.between(f"to {it.name} from server-{number}", it.port) for it in ones]
         port, peer = self.client_ports[number - 1], self.peer_ports[number - 1]
         words = {
-            "etcd": ",".join(f"http://{HOST}:{it}" for it in members), "name": number, "servers": self.count,
-            "listen": f"{HOST}:{peer}", "advertise": f"{HOST}:{peer_at}", "bind": HOST, "port": port, "http-port": 0,
+            "etcd": ",".join(f"http://{HOST}:{it}" for it in members), "name": number,
+            "servers": max(self.count, number), "listen": f"{HOST}:{peer}", "advertise": f"{HOST}:{peer_at}",
+            "bind": HOST, "port": port, "http-port": 0,
         }  # fmt: skip
         options = [str(it) for name, value in words.items() for it in (f"--{name}", value)]
         made = Server(number, self.folder, self.program, port, [*options, *map(str, self.options)])
@@ -264,11 +282,11 @@ class Fleet:
         return [it.client for it in self.members]
 
     def leader(self):
-        """The member that leads the others, or none that says so."""
+        """Returns the member that leads the others, or none if no member says so."""
         return next((it for it in self.members if it.is_alive() and it.is_leader()), None)
 
     def ask(self, path, asked):
-        """What the first member that answers says."""
+        """Returns the answer of the first member that answers."""
         for it in self.members:
             with contextlib.suppress(OSError):
                 return it.ask(path, asked)
@@ -287,5 +305,5 @@ def text(some):
 
 
 def bytes_of(found):
-    """Those that the gateway gave as this text."""
+    """Returns the bytes that the gateway gave as this text."""
     return base64.b64decode(found or "")
