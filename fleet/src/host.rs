@@ -114,6 +114,10 @@ impl ControlHost for Host {
         true
     }
 
+    fn serves_texts(&self) -> bool {
+        false
+    }
+
     fn settings_lines(&self) -> Vec<String> {
         let rule = self.settings.lines().next().unwrap_or_default();
         let (server, shards) = (self.member.server(), self.durable.shards());
@@ -129,7 +133,7 @@ impl ControlHost for Host {
     }
 
     fn compact(&self, reply_to: Box<dyn ReplyTo>) {
-        // A fleet writes no logs that could be compacted.
+        // A fleet hasn't the word, because it writes no logs that could be compacted.
         reply_to.send(Ok(ControlAnswer::Done));
     }
 }

@@ -160,6 +160,7 @@ impl Campaigner {
         let mode = ControlMode {
             lasts: true,
             has_peers: true,
+            serves_texts: self.host.serves_texts(),
         };
         let Some(asked) = word_table::answered_here(&*self.host, mode, asked) else {
             return;

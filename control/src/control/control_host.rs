@@ -40,6 +40,12 @@ pub trait ControlHost: Send + Sync {
         false
     }
 
+    /// Returns whether clients send commands with keys, as those of `./sm serve` do. If a service of the user's own
+    /// answers them instead, the words about such commands don't exist.
+    fn serves_texts(&self) -> bool {
+        true
+    }
+
     /// Returns the address at which clients reach each shard, in a cluster of several processes.
     fn route_lines(&self) -> Vec<String>;
 

@@ -270,6 +270,7 @@ impl Controller {
         ControlMode {
             lasts: self.backend.lasts(),
             has_peers: self.peers.is_some(),
+            serves_texts: self.host.serves_texts(),
         }
     }
 

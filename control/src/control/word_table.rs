@@ -44,6 +44,8 @@ pub(super) struct SmWord {
     there: There,
     /// Whether every role may send it, because it changes nothing, or is executed for the client.
     is_of_all: bool,
+    /// Whether it exists only if clients send commands with keys.
+    is_of_texts: bool,
 }
 
 /// The operation of a word, by its arguments.
@@ -58,7 +60,7 @@ enum Does {
     /// It has one word, of any bytes: the name of a file, or settings.
     Word(fn(&mut Controller, &[u8]) -> Begins),
     /// It may have a name.
-    Name(fn(Option<&str>) -> Begins),
+    Name(fn(ControlMode, Option<&str>) -> Begins),
     /// It has a shard or a server, from which this command is made.
     Makes(fn(u16) -> ControlCommand),
     /// It has a shard and a server, from which this command is made.
@@ -91,6 +93,8 @@ pub(super) struct ControlMode {
     pub(super) lasts: bool,
     /// Whether this is one of several processes.
     pub(super) has_peers: bool,
+    /// Whether clients send commands with keys.
+    pub(super) serves_texts: bool,
 }
 
 impl SmWord {
@@ -101,6 +105,14 @@ impl SmWord {
             does,
             there: There::Everywhere,
             is_of_all: false,
+            is_of_texts: false,
+        }
+    }
+
+    const fn of_texts(self) -> SmWord {
+        SmWord {
+            is_of_texts: true,
+            ..self
         }
     }
 
@@ -118,6 +130,17 @@ impl SmWord {
     /// Returns the word itself.
     fn name(&self) -> &'static str {
         self.form.split(' ').next().unwrap_or_default()
+    }
+
+    /// Returns whether a control of this mode knows the word, though it may refuse it.
+    fn is_known(&self, mode: ControlMode) -> bool {
+        mode.serves_texts || !self.is_of_texts
+    }
+
+    /// Returns whether the help lists the word. A server lists the words of all its modes, because it may be started
+    /// in another one. A fleet has only one mode.
+    fn is_listed(&self, mode: ControlMode) -> bool {
+        mode.serves_texts || self.is_known(mode) && self.refusal(mode).is_none()
     }
 
     /// Returns whether the command is this word, in any case.
@@ -168,7 +191,7 @@ impl SmWord {
             Does::Word(begin) => begin(control, command.get(2)),
             Does::Name(begin) => {
                 let name = String::from_utf8_lossy(command.get(2));
-                begin((command.len() > 2).then_some(&*name))
+                begin(control.mode(), (command.len() > 2).then_some(&*name))
             }
             Does::Here(_) | Does::Before => Err(Refusal::usage(Some(self.form))),
         }
@@ -194,7 +217,7 @@ const WORDS: [SmWord; 37] = [
     SmWord::new("RESIZE n", "with --etcd: servers are 1 to n from now on; those that come are as the last one, and one \
         that goes has stopped or failed, and has no shard", Does::Number(resize)).only(There::Cluster),
     SmWord::new("LOOK k", "how shard k stands", Does::Number(look)).of_all(),
-    SmWord::new("KEY key", "the number of the key's shard", Does::Before).of_all(),
+    SmWord::new("KEY key", "the number of the key's shard", Does::Before).of_all().of_texts(),
     SmWord::new("ASSIGN k a", "the vacant shard k gets the owner a", Does::Changes(ControlCommand::Assign)),
     SmWord::new("PREPARE_ADD k b", "a migration of shard k from its owner to server b begins",
         Does::Changes(ControlCommand::PrepareAddShard)),
@@ -238,11 +261,11 @@ const WORDS: [SmWord; 37] = [
         Does::Here(|host, reply_to| reply_to.send(Ok(ControlAnswer::Lines(host.route_lines())))))
         .only(There::Cluster).of_all(),
     SmWord::new("CALL c n COMMAND ..", "where data outlives the process: a write without reading, once for number n of \
-        client c", Does::Before).only(There::Stores).of_all(),
+        client c", Does::Before).only(There::Stores).of_all().of_texts(),
     SmWord::new("COMPACT", "with --data or --etcd: makes a base of each shard of this process, so that room comes back",
-        Does::Here(|host, reply_to| host.compact(reply_to))).only(There::Stores),
+        Does::Here(|host, reply_to| host.compact(reply_to))).only(There::Stores).of_texts(),
     SmWord::new("AT a COMMAND ..", "sends a command with keys of one shard to server a, as a client with an old map \
-        does", Does::Before).of_all(),
+        does", Does::Before).of_all().of_texts(),
     SmWord::new("HELP", "these lines; SM HELP x tells what the word or the name of a refusal x means",
         Does::Name(help)).of_all(),
 ];
@@ -255,13 +278,21 @@ pub fn is_of_all(word: &[u8]) -> bool {
     forms.peek().is_some() && forms.all(|it| it.is_of_all)
 }
 
+/// Returns the forms of the command's word that a control of this mode knows.
+fn forms(command: &Words, mode: ControlMode) -> impl Iterator<Item = &'static SmWord> + '_ {
+    let is_one = move |it: &&SmWord| it.names(command) && it.is_known(mode);
+    WORDS.iter().filter(is_one)
+}
+
 /// Begins the command, or refuses it.
 pub(super) fn begun(control: &mut Controller, command: &Words) -> Begins {
-    let rows = || WORDS.iter().filter(|it| it.names(command));
-    let Some(word) = rows().find(|it| it.takes(command)) else {
-        return Err(Refusal::usage(rows().next().map(|it| it.form)));
+    let mode = control.mode();
+    let Some(word) = forms(command, mode).find(|it| it.takes(command)) else {
+        return Err(Refusal::usage(
+            forms(command, mode).next().map(|it| it.form),
+        ));
     };
-    match word.refusal(control.mode()) {
+    match word.refusal(mode) {
         Some(refusal) => Err(refusal),
         None => word.begun(control, command),
     }
@@ -274,8 +305,7 @@ pub(super) fn answered_here(
     asked: Asked,
 ) -> Option<Asked> {
     let words = &asked.words;
-    let mut rows = WORDS.iter().filter(|it| it.names(words));
-    let found = rows.find_map(|it| match it.does {
+    let found = forms(words, mode).find_map(|it| match it.does {
         Does::Here(answer) => (it.takes(words) && it.refusal(mode).is_none()).then_some(answer),
         Does::Bare(_)
         | Does::Number(_)
@@ -351,18 +381,21 @@ fn load(control: &mut Controller, name: &[u8]) -> Begins {
     }
 }
 
-/// Returns all words, or the meaning of the word or the name.
-fn help(name: Option<&str>) -> Begins {
+/// Returns all words of this mode, or the meaning of the word or the name.
+fn help(mode: ControlMode, name: Option<&str>) -> Begins {
     let Some(name) = name else {
-        let lines = WORDS
-            .iter()
-            .map(|it| format!("SM {:<16} {}", it.form, it.help));
-        return Ok(ControlAnswer::of_lines(lines).into());
+        return Ok(ControlAnswer::of_lines(listed(mode)).into());
     };
     match meanings(name) {
         told if told.is_empty() => Err(Refusal::no_meaning()),
         told => Ok(ControlAnswer::Lines(told).into()),
     }
+}
+
+/// Returns a line about each word that the help lists in this mode.
+fn listed(mode: ControlMode) -> impl Iterator<Item = String> {
+    let words = WORDS.iter().filter(move |it| it.is_listed(mode));
+    words.map(|it| format!("SM {:<16} {}", it.form, it.help))
 }
 
 /// Returns the meanings of the word, in each of its forms, or of the name of a refusal; nothing if it is neither.
@@ -387,6 +420,27 @@ mod tests {
                     record yet; try: try again; if that server is gone, SM FAIL a";
         assert_eq!(meanings("notnow"), [told]);
         assert!(meanings("LOO").is_empty());
+    }
+
+    #[test]
+    fn a_fleet_lists_its_own_words_alone_and_a_server_those_of_all_modes() {
+        let of = |lasts, has_peers, serves_texts| {
+            let mode = ControlMode {
+                lasts,
+                has_peers,
+                serves_texts,
+            };
+            listed(mode).collect::<Vec<_>>().join("\n")
+        };
+        let (fleet, server) = (of(true, true, false), of(false, false, true));
+        for word in ["MIGRATE k b", "RESIZE n", "RESTART a", "ROUTES", "HELP"] {
+            assert!(fleet.contains(&format!("SM {word}")), "{word}: {fleet}");
+            assert!(server.contains(&format!("SM {word}")), "{word}: {server}");
+        }
+        for word in ["KEY", "CALL", "AT", "COMPACT", "DUMP", "LOAD", "RESTART "] {
+            assert!(!fleet.contains(&format!("SM {word} ")), "{word}: {fleet}");
+            assert!(server.contains(&format!("SM {word}")), "{word}: {server}");
+        }
     }
 
     #[test]
