@@ -67,15 +67,19 @@ impl<S: Service> Fleet<S> {
         let (notices, noticed) = Notices::new();
         let (inner, threads) =
             joined((service, options, settings), (at, &safety), store, &notices)?;
-        follower_threads::begin(&inner, noticed)?;
-        host::begin(&inner, &threads)?;
-        listener.begin(&inner, &threads)?;
-        Ok(Fleet {
+        // If a step below fails, dropping this makes the process leave.
+        let fleet = Fleet {
             inner,
             listener,
             address,
             left: Notify::new(),
-        })
+        };
+        // The process answers before it asks. So of two that begin together, the later one is answered.
+        fleet.listener.begin(&fleet.inner, &threads)?;
+        be_met(&fleet.inner.member, threads.connections())?;
+        follower_threads::begin(&fleet.inner, noticed)?;
+        host::begin(&fleet.inner, &threads)?;
+        Ok(fleet)
     }
 
     /// Serves until this process leaves the fleet. On SIGTERM the process [stops](Fleet::stop), within `--grace`. On a
@@ -186,7 +190,9 @@ fn joined<S: Service>(
     let (wanted, sharding) = (settings.written(), settings.sharding);
     let settings = settings::agree(&*store, &wanted, options.name)?;
     let member = Arc::new(member(&options, at, store.clone(), notices)?);
-    let threads = Threads::new(met(&member, safety, settings::identity(&settings))?);
+    let process = (member.server(), member.process());
+    let introduction = Introduction::of_process(safety, settings::identity(&settings), process);
+    let threads = Threads::new(Connections::new(introduction));
     let (shards, shard_options, own) = (sharding.shards(), ShardOptions::default(), own(&member));
     let durable = Durable::open_one(store, shards, shard_options, own, notices.teller())?;
     let (of_record, threads) = ((member, Arc::new(durable)), Arc::new(threads));
@@ -215,29 +221,28 @@ fn member(
     Member::join(store, options.name, addresses, lease, notices.teller())
 }
 
-/// Returns the connections of this process, if another process accepts it or no other process is there.
+/// Asks the processes that are there whether they accept this one.
 ///
 /// # Errors
 ///
-/// If other processes are there and each of them that answers in time refuses this one.
-fn met(member: &Member, safety: &Safety, settings: u64) -> Result<Connections, JoinError> {
-    let own = (member.server(), member.process());
-    let connections = Connections::new(Introduction::of_process(safety, settings, own));
-    let (members, end, mut refused) = (member.members(), Instant::now() + ASK_OTHERS, None);
-    for (_, other) in members.iter().filter(|it| *it.0 != own.0) {
+/// If an earlier process refuses this one, and none that answers in time accepts it. Whoever joined later asks this
+/// process in turn, and leaves by itself.
+fn be_met(member: &Member, connections: &Connections) -> Result<(), JoinError> {
+    let (members, own) = (member.members(), member.server());
+    let (end, mut refused) = (Instant::now() + ASK_OTHERS, None);
+    for (_, other) in members.iter().filter(|it| *it.0 != own) {
         let (address, left) = (&other.addresses.servers, left(end));
         match connections.connect(address, left) {
-            Ok(_) => return Ok(connections),
-            Err(why) if why.is_refusal() => refused = Some(JoinError::NotMet(address.clone(), why)),
-            // The process may have failed, and its lease hasn't ended yet.
+            Ok(_) => return Ok(()),
+            Err(why) if why.is_refusal() && other.joined < member.joined() => {
+                refused = Some(JoinError::NotMet(address.clone(), why));
+            }
+            // The process joined later. Or it may have failed, and its lease hasn't ended yet.
             Err(_) => {}
         }
         if Instant::now() >= end {
             break;
         }
     }
-    refused.map_or(Ok(connections), |why| {
-        member.leave();
-        Err(why)
-    })
+    refused.map_or(Ok(()), Err)
 }

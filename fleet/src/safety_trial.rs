@@ -250,6 +250,28 @@ fn who_shows_another_secret_or_none_is_refused_by_name() {
 }
 
 #[test]
+fn of_two_that_begin_together_with_different_secrets_only_one_joins() {
+    let folder = Folder::made("together");
+    let secrets = ["one", "other"].map(|it| folder.secret(it));
+    for _ in 0..20 {
+        let store: Arc<dyn Store> = Arc::new(Embedded::in_memory());
+        let join = |server, secret: &SafetyOptions| {
+            let options = options(server, secret.clone());
+            Fleet::join_over(Executing(Arc::default()), options, store.clone())
+        };
+        let joined = thread::scope(|scope| {
+            let other = scope.spawn(|| join(2, &secrets[1]));
+            [join(1, &secrets[0]), other.join().unwrap()]
+        });
+        // Both are still there, so the one that joined wasn't asked in vain.
+        let refusals: Vec<_> = joined.iter().filter_map(|it| it.as_ref().err()).collect();
+        assert_eq!(refusals.len(), 1, "{refusals:?}");
+        let is_named = matches!(refusals[0], JoinError::NotMet(_, MeetError::OtherSecret));
+        assert!(is_named, "{}", refusals[0]);
+    }
+}
+
+#[test]
 fn by_tls_only_certificates_of_the_authority_are_taken_within_their_time() {
     if !is_openssl_there() {
         return println!("openssl isn't installed, so nothing was tried");
