@@ -131,10 +131,10 @@ enum durkenzo_code {
 enum durkenzo_settings_code {
     /* By tools/library-codes, the settings of library/codes.txt: */
     DURKENZO_SETTINGS_TOO_LONG = 70,    /* the line has more than 1,048,576 bytes */
-    DURKENZO_SETTINGS_BAD_JSON = 71,    /* the line is no JSON in UTF-8, is too deep, or has too large a number */
-    DURKENZO_SETTINGS_BAD_VERSION = 72, /* the value is no object with the number 1 or 2 as its `version` */
+    DURKENZO_SETTINGS_BAD_JSON = 71,    /* the line isn't JSON in UTF-8, nests too deep, or has too large a number */
+    DURKENZO_SETTINGS_BAD_VERSION = 72, /* the value isn't an object whose `version` is the number 1 or 2 */
     DURKENZO_SETTINGS_BAD_SHAPE = 73,   /* a member is missing, unknown or of another type */
-    DURKENZO_SETTINGS_BAD_LAYOUT = 74,  /* the bounds make no layout */
+    DURKENZO_SETTINGS_BAD_LAYOUT = 74,  /* the bounds don't make a layout */
     DURKENZO_SETTINGS_BAD_SERVERS = 75, /* the servers break a rule */
     DURKENZO_SETTINGS_BAD_GROUPS = 76,  /* the groups break a rule */
     DURKENZO_SETTINGS_BAD_SHARDS = 77,  /* the shards break a rule */

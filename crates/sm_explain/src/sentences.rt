@@ -68,7 +68,7 @@ const REFUSALS: [Entry; 38] = [
     ),
     (
         "NoCapacity",
-        "the server hasn't the capacity that is left for the shard's load",
+        "the server's capacity that is left is less than the shard's load",
     ),
     (
         "DomainLimit",
@@ -106,7 +106,7 @@ const REFUSALS: [Entry; 38] = [
         "the request came to a shard that isn't its key's",
     ),
     ("Raced", "another thread changed the shard's record first"),
-    ("Closed", "the request was let go with no reply"),
+    ("Closed", "the request was dropped without a reply"),
 ];
 
 /// Why settings are answered by these names.
@@ -118,7 +118,7 @@ const SETTINGS: [Entry; 14] = [
     ),
     (
         "BadVersion",
-        "the line is no object, or has no member version that is the number 1 or 2",
+        "the line isn't an object with a member version that is the number 1 or 2",
     ),
     (
         "BadShape",

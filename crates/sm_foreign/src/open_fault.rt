@@ -12,7 +12,7 @@ pub enum OpenFault {
     #[error(transparent)]
     Books(BooksFault),
     /// The bodies aren't as many as the shards of the settings.
-    #[error("the bodies aren't as many as the shards of the settings")]
+    #[error("the number of bodies isn't the number of shards in the settings")]
     Bodies,
     /// More than 4,095 servers.
     #[error("a board has at most 4,095 servers")]

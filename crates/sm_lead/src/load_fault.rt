@@ -9,7 +9,7 @@ pub enum LoadFault {
     #[error("no commands lead to what was read: {0}")]
     Unreached(CommandFault),
     /// There are records or states of another number, or others than commands lead to.
-    #[error("the records or states are others than commands lead to")]
+    #[error("the records or states aren't those to which commands lead")]
     Different,
 }
 

@@ -14,6 +14,6 @@ pub enum ResettleFault {
     #[error("the settings have another ceiling")]
     OtherCeiling,
     /// The settings have no row of this server, which has neither stopped nor failed.
-    #[error("server {0} has neither stopped nor failed, and the settings have no row of it")]
+    #[error("server {0} has neither stopped nor failed, and the settings have no row for it")]
     InUse(ServerId),
 }

@@ -26,7 +26,7 @@ fn faults_of_opening_have_texts(rt: HostRuntime) {
         ),
         (
             OpenFault::Bodies,
-            "the bodies aren't as many as the shards of the settings",
+            "the number of bodies isn't the number of shards in the settings",
         ),
         (OpenFault::Servers, "a board has at most 4,095 servers"),
         (

@@ -33,7 +33,7 @@ fn faults_of_replays_have_texts(rt: HostRuntime) {
         ),
         (
             LoadFault::Different,
-            "the records or states are others than commands lead to",
+            "the records or states aren't those to which commands lead",
         ),
     ];
     assert_texts(&rt, rt.alloc(), &loaded);
@@ -52,7 +52,7 @@ fn faults_of_replays_have_texts(rt: HostRuntime) {
         ),
         (
             ResettleFault::InUse(ServerId::of(3)),
-            "server 3 has neither stopped nor failed, and the settings have no row of it",
+            "server 3 has neither stopped nor failed, and the settings have no row for it",
         ),
     ];
     assert_texts(&rt, rt.alloc(), &resettled);

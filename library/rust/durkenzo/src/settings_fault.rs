@@ -12,13 +12,13 @@ pub enum SettingsFault {
     BadAfter,
     /// The line has more than 1,048,576 bytes.
     TooLong,
-    /// The line is no JSON in UTF-8, is too deep, or has too large a number.
+    /// The line isn't JSON in UTF-8, nests too deep, or has too large a number.
     BadJson,
-    /// The value is no object with the number 1 or 2 as its `version`.
+    /// The value isn't an object whose `version` is the number 1 or 2.
     BadVersion,
     /// A member is missing, unknown or of another type.
     BadShape,
-    /// The bounds make no layout.
+    /// The bounds don't make a layout.
     BadLayout,
     /// The servers break a rule.
     BadServers,
