@@ -26,11 +26,10 @@ FORM = {it.word: it for it in FORMS}
 WORDS = sorted(it.decode() for it in ALL)
 # The words of tools/shell, which are none of scripts.
 SHELL_WORDS = ["help", "shards", "migrate", "place!", "drain!", "restart", "sent", "save", "quit"]
-# An entry of the server's tables of words and of names, and a row of the errors that it has beside Redis'.
+# An entry of the server's tables: of words, of names, and of the errors that it has beside Redis'.
 SERVER_ENTRY = re.compile(r'\(\s*"([^"]+)",\s*"([^"]*)"(?:,\s*"([^"]*)")?,?\s*(?:\)|[A-Z])')
 # The files of the server's tables.
-SERVER_TABLES = {"WORDS": "word_table.rs", "NAMES": "refusal_names.rs"}
-ERROR_ROW = re.compile(r"(?m)^\| ((?:`[A-Z]+`(?:, )?)+) \| (.*) \|$")
+SERVER_TABLES = {"WORDS": "word_table.rs", "NAMES": "refusal_names.rs", "ERRORS": "refusal_names.rs"}
 WIDTH = 17
 
 
@@ -77,9 +76,9 @@ def server_table(name):
 
 
 def server_errors():
-    """When the server answers by each error that Redis hasn't, as docs/SERVER.md tells."""
-    rows = ERROR_ROW.findall((runs.TOP / "docs/SERVER.md").read_text(encoding="utf-8"))
-    return {name: when.replace("`", "") for names, when in rows for name in re.findall(r"\w+", names)}
+    """When the server answers by each error that Redis hasn't."""
+    rows = server_table("ERRORS").items()
+    return {name: when.replace("`", "") for names, (when,) in rows for name in names.split(", ")}
 
 
 def server_told(name):

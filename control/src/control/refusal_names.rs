@@ -45,3 +45,19 @@ pub const NAMES: [(&str, &str, &str); 32] = [
     ("Holding", "the thread has another shard still", "try again"),
     ("BadServer", "a server has a number from 1 to 4095", "SM SERVERS lists them"),
 ];
+
+/// Each error by which a server answers a command and that Redis hasn't: names, and when. docs/SERVER.md has the same
+/// rows, and `./sm help` reads them here.
+pub const ERRORS: [(&str, &str); 10] = [
+    ("CROSSSHARD", "the keys of one transaction are of several shards"),
+    ("SHARDPAUSED, SHARDVACANT, SERVERDOWN, SHARDBUSY", "the command waited in vain for `--wait`"),
+    ("BADKEY, TOOLONG, TOOLARGE, QUEUEFULL", "a key, value, pattern, command, reply or transaction is too large"),
+    ("NOEXPIRY", "`SET` with `EX` or the like: keys don't expire"),
+    ("NOTDURABLE, STOREFULL, STOREDOWN, SHARDDAMAGED, TOOMANYCLIENTS, STOPPING",
+      "with `--data` or `--etcd`: this shard has written nothing"),
+    ("LOADING", "the server hasn't read the shard yet: nothing has changed"),
+    ("OTHERVERSION", "another process doesn't know the command: nothing has changed"),
+    ("UNKNOWN", "a write may have been made, perhaps for only some keys of `MSET`, `DEL` or `FLUSHDB`"),
+    ("PEERDOWN", "with `--etcd`: a process couldn't be reached within `--wait`; nothing has changed"),
+    ("NOTNUMBERED, BADNUMBER, PASSED", "`SM CALL` isn't made; with `PASSED` it may have been made before"),
+];

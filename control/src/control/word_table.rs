@@ -3,7 +3,7 @@ use super::answer::ControlAnswer;
 use super::controller::Controller;
 use super::drain::Drain;
 use super::migration::Migration;
-use super::refusal_names::NAMES;
+use super::refusal_names::{ERRORS, NAMES};
 use super::resized_settings::resized;
 use super::restart::Restart;
 use super::rolling_restart::Rolling;
@@ -398,14 +398,17 @@ fn listed(mode: ControlMode) -> impl Iterator<Item = String> {
     words.map(|it| format!("SM {:<16} {}", it.form, it.help))
 }
 
-/// Returns the meanings of the word, in each of its forms, or of the name of a refusal; nothing if it is neither.
+/// Returns the meanings of the word, in each of its forms, or of the name of a refusal or an error; nothing if it is
+/// none of these.
 fn meanings(asked: &str) -> Vec<String> {
     let is_asked = |it: &str| it.eq_ignore_ascii_case(asked);
     let words = WORDS.iter().filter(|it| is_asked(it.name()));
     let names = NAMES.iter().filter(|it| is_asked(it.0));
+    let errors = ERRORS.iter().filter(|it| it.0.split(", ").any(is_asked));
     let words = words.map(|it| format!("SM {}: {}", it.form, it.help));
     let names = names.map(|(name, when, advice)| format!("{name}: {when}; try: {advice}"));
-    words.chain(names).collect()
+    let errors = errors.map(|(names, when)| format!("{names}: {}", when.replace('`', "")));
+    words.chain(names).chain(errors).collect()
 }
 
 #[cfg(test)]
@@ -419,7 +422,21 @@ mod tests {
         let told = "NotNow: a process hasn't read yet that the shard was taken, or a server hasn't acked the shard's \
                     record yet; try: try again; if that server is gone, SM FAIL a";
         assert_eq!(meanings("notnow"), [told]);
+        let told = "NOEXPIRY: SET with EX or the like: keys don't expire";
+        assert_eq!(meanings("NOEXPIRY"), [told]);
+        assert!(meanings("peerdown")[0].starts_with("PEERDOWN: "));
         assert!(meanings("LOO").is_empty());
+    }
+
+    #[test]
+    fn the_page_has_each_error_with_the_same_text() {
+        let path = concat!(env!("CARGO_MANIFEST_DIR"), "/../docs/SERVER.md");
+        let page = std::fs::read_to_string(path).unwrap();
+        for (names, when) in ERRORS {
+            let names: Vec<_> = names.split(", ").map(|it| format!("`{it}`")).collect();
+            let row = format!("\n| {} | {when} |\n", names.join(", "));
+            assert!(page.contains(&row), "docs/SERVER.md has no row {row}");
+        }
     }
 
     #[test]
