@@ -5,10 +5,10 @@ use crate::host;
 use crate::introduction::Introduction;
 use crate::listener::Listener;
 use crate::settings::Settings;
-use crate::stream::left;
 use crate::threads::{block_on, Threads};
-use crate::{settings, Enter, JoinError, Mode, Options, Safety, Service, Sharding};
+use crate::{settings, Enter, JoinError, MeetError, Mode, Options, Safety, Service, Sharding};
 use durkenzo_control::descriptors::raise_limit;
+use durkenzo_control::links::be_accepted;
 use durkenzo_driver::{Addresses, Durable, JoinFault, Member, ShardOptions};
 use durkenzo_store::Store;
 use std::fmt;
@@ -17,13 +17,10 @@ use std::net::SocketAddr;
 use std::sync::atomic::Ordering;
 use std::sync::Arc;
 use std::thread;
-use std::time::{Duration, Instant};
+use std::time::Duration;
 use tokio::runtime;
 use tokio::signal::unix::{signal, Signal, SignalKind};
 use tokio::sync::Notify;
-
-/// The longest time for asking other processes whether they accept this one.
-const ASK_OTHERS: Duration = Duration::from_secs(3);
 
 /// A process of a fleet. It follows the records, holds bodies, and answers clients and other processes, until it
 /// leaves.
@@ -76,7 +73,7 @@ impl<S: Service> Fleet<S> {
         };
         // The process answers before it asks. So of two that begin together, the later one is answered.
         fleet.listener.begin(&fleet.inner, &threads)?;
-        be_met(&fleet.inner.member, threads.connections())?;
+        accepted(&fleet.inner.member, threads.connections())?;
         follower_threads::begin(&fleet.inner, noticed)?;
         host::begin(&fleet.inner, &threads)?;
         Ok(fleet)
@@ -222,27 +219,8 @@ fn member(
 }
 
 /// Asks the processes that are there whether they accept this one.
-///
-/// # Errors
-///
-/// If an earlier process refuses this one, and none that answers in time accepts it. Whoever joined later asks this
-/// process in turn, and leaves by itself.
-fn be_met(member: &Member, connections: &Connections) -> Result<(), JoinError> {
-    let (members, own) = (member.members(), member.server());
-    let (end, mut refused) = (Instant::now() + ASK_OTHERS, None);
-    for (_, other) in members.iter().filter(|it| *it.0 != own) {
-        let (address, left) = (&other.addresses.servers, left(end));
-        match connections.connect(address, left) {
-            Ok(_) => return Ok(()),
-            Err(why) if why.is_refusal() && other.joined < member.joined() => {
-                refused = Some(JoinError::NotMet(address.clone(), why));
-            }
-            // The process joined later. Or it may have failed, and its lease hasn't ended yet.
-            Err(_) => {}
-        }
-        if Instant::now() >= end {
-            break;
-        }
-    }
-    refused.map_or(Ok(()), Err)
+fn accepted(member: &Member, connections: &Connections) -> Result<(), JoinError> {
+    let ask = |_, address: &str, within| connections.connect(address, within).map(drop);
+    be_accepted(member, ask, MeetError::is_refusal)
+        .map_err(|it| JoinError::NotMet(it.address, it.why))
 }

@@ -42,6 +42,7 @@ mod keep_alive;
 mod link;
 mod link_counts;
 mod links_inner;
+mod not_accepted;
 mod outbound;
 mod outbound_message;
 mod outbox;
@@ -79,6 +80,7 @@ pub use host::Host;
 pub use identity::{checksum, Identity, FIRST_TABLE};
 pub use keep_alive::{KeepAlive, KEEP_ALIVE};
 pub use link_counts::LinkCounts;
+pub use not_accepted::NotAccepted;
 pub use peer_session::PeerSession;
 pub use pending_handshakes::{PendingHandshake, PendingHandshakes};
 pub use reason::{Reason, MAX_REASON};
@@ -90,7 +92,7 @@ pub use returned_requests::ReturnedRequests;
 pub use secret::Secret;
 pub use secret_fault::SecretFault;
 pub use sent_frames::SentFrames;
-pub use sockets::SocketHandshake;
+pub use sockets::{be_accepted, SocketHandshake};
 pub use terms::Terms;
 pub use wire_fault::WireFault;
 
@@ -210,6 +212,16 @@ impl<H: Host> Links<H> {
     ) -> io::Result<JoinHandle<()>> {
         self.begin_without_threads(servers, host);
         sockets::begin_to_answer(listener, self.inner.clone())
+    }
+
+    /// Asks the other processes that are there whether they accept this one, for some seconds at most. Call it after
+    /// [`Links::begin`].
+    ///
+    /// # Errors
+    ///
+    /// As of [`be_accepted`], if the secret of this process is another one. The process should leave then.
+    pub fn be_accepted(&self) -> Result<(), NotAccepted<io::Error>> {
+        sockets::links_accepted(&self.inner)
     }
 
     /// Begins to answer incoming connections of processes, with this host. The cluster has so many servers. The caller

@@ -82,11 +82,12 @@ impl Joined {
         )
     }
 
-    /// Begins to answer other processes.
+    /// Begins to answer other processes, and asks them whether they accept this one.
     ///
     /// # Errors
     ///
-    /// If the system refuses a thread.
+    /// If the system refuses a thread, or the secret of this process isn't that of the others. The process has left
+    /// then.
     pub fn begin(
         self,
         cluster: &Arc<Cluster>,
@@ -95,6 +96,11 @@ impl Joined {
         let answering = self
             .peers
             .begin(self.listener, &self.durable, cluster, control)?;
+        if let Err(refusal) = self.peers.be_accepted() {
+            self.peers.leave();
+            let all = "give all the same, by --peer-secret-file or DURKENZO_PEER_SECRET";
+            return Err(format!("{refusal}: {all}").into());
+        }
         // From here on it adopts the settings that replace these.
         let watch = follow_settings(cluster, &**self.durable.store())?;
         if let Storage::Etcd(etcd) = &cluster.storage {

@@ -4,7 +4,7 @@ use super::peer_command::PeerCommand;
 use super::step_destination::StepDestination;
 use crate::cluster::Cluster;
 use crate::control::{Again, Asked};
-use durkenzo_control::links::{checksum, LinkCounts, Links, Terms};
+use durkenzo_control::links::{checksum, LinkCounts, Links, NotAccepted, Terms};
 use durkenzo_driver::{Durable, Elsewhere, HandOver, Member, WorkStep};
 use std::fmt;
 use std::io;
@@ -91,6 +91,15 @@ impl Peers {
         };
         let servers = cluster.presence.servers();
         self.links.begin(listener, servers, host)
+    }
+
+    /// Asks the other processes that are there whether they accept this one, which must answer them by now.
+    ///
+    /// # Errors
+    ///
+    /// If one that joined earlier refuses this one because of its secret, and none accepts it.
+    pub fn be_accepted(&self) -> Result<(), NotAccepted<io::Error>> {
+        self.links.be_accepted()
     }
 
     /// Stops giving other processes' commands to the control.

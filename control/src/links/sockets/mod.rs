@@ -1,5 +1,6 @@
 //! The sockets and threads of links. Only here does a link wait, or look at the machine's clock: all other modules are
 //! given bytes and the time.
+mod acceptance;
 mod channel;
 mod inbound_thread;
 mod keep_alive;
@@ -7,6 +8,8 @@ mod link_thread;
 mod socket_closer;
 mod socket_handshake;
 
+pub use acceptance::be_accepted;
+pub(super) use acceptance::links_accepted;
 pub(super) use link_thread::begin_link;
 pub use socket_handshake::SocketHandshake;
 
