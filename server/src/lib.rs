@@ -27,6 +27,7 @@ pub mod io;
 pub mod join;
 pub mod keep_alive;
 pub mod keyspace;
+mod lease_log;
 pub mod log;
 pub mod main_thread;
 pub mod membership;

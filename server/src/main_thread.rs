@@ -2,6 +2,7 @@
 use crate::cluster::Cluster;
 use crate::departure::Departure;
 use crate::http;
+use crate::lease_log::LeaseLog;
 use crate::memory::{Trimmer, CEILING};
 use crate::run::BoxError;
 use std::io;
@@ -99,14 +100,17 @@ impl MainThread {
     }
 }
 
-/// Waits for the end of a thread or of the store, and looks after memory meanwhile.
+/// Waits for the end of a thread or of the store. Meanwhile it looks after memory, and tells the log of the lease.
 async fn ended(cluster: &Cluster) -> Result<(), BoxError> {
-    let mut trimmer = Trimmer::default();
+    let (mut trimmer, mut lease_log) = (Trimmer::default(), LeaseLog::default());
     let mut tick = tokio::time::interval(Duration::from_millis(200));
     loop {
         tick.tick().await;
         CEILING.look();
         trimmer.look();
+        if let Some(peers) = cluster.storage.peers() {
+            lease_log.look(peers);
+        }
         if cluster.is_stopping() {
             return Err("a thread ended".into());
         }

@@ -248,6 +248,8 @@ def a_process_without_etcd_says_so(program):
             for it in several.etcd.processes:
                 it.send_signal(signal.SIGCONT)
         eventually(lambda: probed(port, "/ready") == (200, "ok\n"))
+        leases = lambda: [it["level"] for it in logged(several.processes[server]) if " lease" in it["fields"]["message"]]
+        eventually(lambda: leases() == ["INFO", "WARN", "INFO"])
 
 
 def watched_numbers_are_told(port, client):
@@ -333,9 +335,14 @@ def clusters_share_an_etcd(program):
         assert all(it.startswith("/") for it in keys), keys
 
 
+def logged(process):
+    """The lines of the process's log."""
+    return [json.loads(it) for it in list(process.log)]
+
+
 def moves_in_log(several):
     """The shards that have moved, from where, and where they are, as processes log it."""
-    lines = [json.loads(it)["fields"] for process in several.processes.values() for it in list(process.log)]
+    lines = [it["fields"] for process in several.processes.values() for it in logged(process)]
     moved = [it for it in lines if it["message"] == "the shard has moved"]
     return [(it["shard"], it["from"], it["to"]) for it in moved]
 
@@ -499,19 +506,15 @@ def processes_speak_tls_and_know_a_secret(program):
             with several.client(2) as client:
                 assert client.piped([("INCR", f"key:{it}") for it in range(20)]) == [1] * 20
             several.processes.pop(3).kill(signal.SIGTERM)
-            several.options = (*tls, "--peer-secret-file", f"{folder}/other", "--wait", 300)
+            other = (*tls, "--peer-secret-file", f"{folder}/other")
+            refused_start(command(program, several, 3, other), "its secret is another one", "--peer-secret-file")
+            with several.client(1) as client:
+                # Others have its shards, and it took none of them.
+                several.settled(without=3)
+                assert client.piped([("GET", f"key:{it}") for it in range(20)]) == [b"1"] * 20
             several.begin(3)
-            with several.client(1) as client, several.client(3) as stranger:
+            with several.client(1) as client:
                 eventually(lambda: rows(client)[2][1] == "up")
-                eventually(lambda: is_refused_by_its_secret(stranger))
-                assert client.ask("SET", "key:1", 1) == "OK"
-
-
-def is_refused_by_its_secret(stranger):
-    """Returns whether a process is told that its secret is wrong, whatever it asks others for."""
-    answers = stranger.piped([("GET", f"key:{it}") for it in range(20)])
-    told = [str(it) for it in answers if isinstance(it, Refused)]
-    return bool(told) and all("its secret is another one" in it for it in told)
 
 
 def who_ends_within_a_handshake_holds_no_thread(program):
@@ -596,18 +599,20 @@ def refused_by_name(program, several):
         (("--servers", 2), 1, "running already"), (("--shards", 5), 1, "OTHERSETTINGS"), ((), 2, "running already"),
         ((), 9, "--name 9"), (("--http-port", taken), 2, "--http-port takes another port"),
     ):
-        words = command(program, several, server, (*several.options, *options))
-        ran = subprocess.run(words, capture_output=True, text=True, timeout=PATIENCE)
-        assert ran.returncode == 1 and name in ran.stderr, f"{name}: {ran.returncode}, {ran.stderr[-500:]}"
+        refused_start(command(program, several, server, (*several.options, *options)), name)
+
+
+def refused_start(words, *told):
+    """Tests that a start fails with a message that has all these words."""
+    ran = subprocess.run(words, capture_output=True, text=True, timeout=PATIENCE)
+    assert ran.returncode == 1 and all(it in ran.stderr for it in told), f"{ran.returncode}, {ran.stderr[-500:]}"
 
 
 def an_etcd_that_isnt_there_is_looked_for_by_name(program):
     """A start without etcd says at which addresses it looked, and what to do."""
     ports = ("--port", "0", "--http-port", "0", "--listen", "127.0.0.1:0")
     words = [program, "--name", "1", "--etcd", "http://127.0.0.1:1", *ports]
-    ran = subprocess.run(words, capture_output=True, text=True, timeout=PATIENCE)
-    told = ("http://127.0.0.1:1", "refused", "is it running", "--etcd")
-    assert ran.returncode == 1 and all(it in ran.stderr for it in told), f"{ran.returncode}, {ran.stderr[-500:]}"
+    refused_start(words, "http://127.0.0.1:1", "refused", "is it running", "--etcd")
 
 
 class Load(contextlib.AbstractContextManager):
