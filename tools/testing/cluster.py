@@ -62,9 +62,13 @@ def demo(room, program):
                 break
         text = "".join(said)
         ports, processes = re.findall(r"port (\d+)", text), re.findall(r"process (\d+)", text)
+        killed = re.search(r"kill -9 (\d+)", text)
+        if not killed:
+            yield verdict("the demo of a cluster begins", False, text)
+            return
         try:
             answers = [asked(int(it)) for it in ports]
-            shards = came_home(int(ports[0]), int(re.findall(r"kill -9 (\d+)", text)[0]))
+            shards = came_home(int(ports[0]), int(killed[1]))
         finally:
             run.send_signal(signal.SIGINT)
         rest = run.communicate(timeout=SECONDS)[0]
