@@ -136,7 +136,7 @@ pub enum NotDone {
     #[error("no server had the shard ready")]
     Busy,
     /// As much work waits for the shard as allowed.
-    #[error("as many commands wait for the shard as may")]
+    #[error("too many commands wait for the shard")]
     Crowded,
     /// The store's content is wrong.
     #[error("what lies in the store is wrong: {0}")]

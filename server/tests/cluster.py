@@ -943,7 +943,7 @@ def commands_wait_for_who_leads_next(program):
             stop.set()
             moving.join(PATIENCE)
         refused = [it for it in told if it != "OK"]
-        goes_on = "REFUSED NotLeader: another process leads from now on, and goes on with what is under way"
+        goes_on = "REFUSED NotLeader: another process leads from now on, and goes on with the work under way"
         assert len(refused) <= 1 and all(it.startswith(goes_on) for it in refused), refused
         return f"{len(told)} migrations"
 

@@ -572,16 +572,16 @@ def words_of_sm_say_how_they_are_written(program):
             (("SM", "PLAN", "x"), "REFUSED BadLine: it is written SM PLAN a, with numbers for a;"),
             (("SM", "KEY"), "REFUSED BadLine: it is written SM KEY key;"),
             (("SM", "KEY", ""), "BADKEY"),
-            (("SM", "ROUTES"), "REFUSED NotThere: SM ROUTES is there with --etcd alone;"),
-            (("SM", "CALL", 1, 1, "DEL", "a"), "REFUSED NotThere: SM CALL is there with --data or --etcd alone;"),
-            (("SM", "COMPACT"), "REFUSED NotThere: SM COMPACT is there with --data or --etcd alone;"),
-            (("SM", "HELP", "nothing"), "REFUSED UnknownWord: SM has no such word, nor a name of its own that is so;"),
+            (("SM", "ROUTES"), "REFUSED NotThere: SM ROUTES exists only with --etcd;"),
+            (("SM", "CALL", 1, 1, "DEL", "a"), "REFUSED NotThere: SM CALL exists only with --data or --etcd;"),
+            (("SM", "COMPACT"), "REFUSED NotThere: SM COMPACT exists only with --data or --etcd;"),
+            (("SM", "HELP", "nothing"), "REFUSED UnknownWord: SM has no such word, and no refusal or error has this name;"),
         ]:
             client.send(*words)
             found = client.read()
             assert isinstance(found, Refused) and str(found).startswith(wanted), (words, found)
-        assert client.ask("SM", "HELP", "NotThere")[0].startswith(b"NotThere: the word is there where data lies")
-        assert client.ask("SM", "HELP", "look") == [b"SM LOOK k: how shard k stands"]
+        assert client.ask("SM", "HELP", "NotThere")[0].startswith(b"NotThere: the word exists only if data lies")
+        assert client.ask("SM", "HELP", "look") == [b"SM LOOK k: the stand of shard k"]
         for word, first in (("SHARDS", b"shard stand owner "), ("SERVERS", b"server standing domain ")):
             names, *lines = client.ask("SM", word)
             assert names.startswith(first) and {len(it.split()) for it in lines} == {len(names.split())}, names

@@ -58,7 +58,7 @@ impl Refusal {
 
     /// Returns the refusal that SM has neither such a word nor such a name.
     pub fn no_meaning() -> Refusal {
-        let reason = "SM has no such word, nor a name of its own that is so";
+        let reason = "SM has no such word, and no refusal or error has this name";
         Refusal::new(
             "UnknownWord",
             reason,
@@ -68,16 +68,16 @@ impl Refusal {
 
     /// Returns the refusal that the word exists only in this case.
     pub fn there_alone(word: &str, case: &str) -> Refusal {
-        let reason = format!("SM {word} is there {case} alone");
+        let reason = format!("SM {word} exists only {case}");
         Refusal::new("NotThere", reason, "SM HELP lists all words")
     }
 
     /// Returns the refusal that servers in several processes aren't restarted all at once, because somebody must start
     /// each process again.
     pub fn one_by_one() -> Refusal {
-        let reason = "each process of a cluster is to be ended and begun again by hand";
+        let reason = "each process of a cluster must be ended and started again by hand";
         let advice = "SM RESTART a, and once that says that server a is stopped end its process and start it again; \
-                      then so with the next one";
+                      then do so with the next one";
         Refusal::new("OneByOne", reason, advice)
     }
 
@@ -93,7 +93,7 @@ impl Refusal {
     /// Returns the refusal that the shard isn't at its destination.
     pub fn not_moved(shard: u16, server: u16) -> Refusal {
         let reason = format!(
-            "shard {shard} isn't at server {server}: that one failed, or somebody had it stay, or go elsewhere"
+            "shard {shard} isn't at server {server}: that server failed, or somebody made the shard stay or go elsewhere"
         );
         let advice = format!("SM LOOK {shard} tells where it is");
         Refusal::new("NotMoved", reason, advice)
@@ -107,7 +107,7 @@ impl Refusal {
 
     /// Returns the refusal that too many commands wait for the control.
     pub fn crowded() -> Refusal {
-        let reason = "as many commands wait for the control as may";
+        let reason = "too many commands wait for the control";
         Refusal::new("Crowded", reason, "try again")
     }
 
@@ -117,7 +117,7 @@ impl Refusal {
         Refusal::new(
             "UnderWay",
             reason,
-            "wait for its end: SM SERVERS tells how far it is",
+            "wait for its end: SM SERVERS shows its progress",
         )
     }
 
@@ -129,8 +129,8 @@ impl Refusal {
 
     /// Returns the refusal that another process leads from now on.
     pub fn led_elsewhere() -> Refusal {
-        let reason = "another process leads from now on, and goes on with what is under way";
-        Refusal::new(NOT_LEADER, reason, "SM SERVERS tells how far it is")
+        let reason = "another process leads from now on, and goes on with the work under way";
+        Refusal::new(NOT_LEADER, reason, "SM SERVERS shows its progress")
     }
 
     /// Returns the refusal that the process ends.
@@ -149,7 +149,7 @@ impl Refusal {
 
     /// Returns the refusal that the word exists only in memory mode.
     pub fn not_durable(word: &str) -> Refusal {
-        let reason = format!("SM {word} isn't there where data outlives the process");
+        let reason = format!("SM {word} doesn't exist if data outlives the process");
         Refusal::new("NotDurable", reason, "SM HELP lists all words")
     }
 
@@ -245,8 +245,8 @@ impl Refusal {
 
     /// Returns the refusal that the processes can't adopt other settings than those with which they began.
     pub(super) fn settings_stay() -> Refusal {
-        let reason = "its processes go by the settings with which they began".to_owned();
-        Refusal::new("NotThere", reason, "begin another one with other settings")
+        let reason = "its processes keep the settings with which they began".to_owned();
+        Refusal::new("NotThere", reason, "start another one with other settings")
     }
 
     /// Returns the refusal that settings aren't text.
@@ -381,7 +381,7 @@ impl Refusal {
             1 => format!("server {first} has"),
             _ => format!("servers {} have", named.join(", ")),
         };
-        self.reason = format!("{}, as {have} failed", self.reason);
+        self.reason = format!("{}, because {have} failed", self.reason);
         self.advice = match are_processes {
             true => format!("start the process of server {first} again, and then this"),
             false => format!("SM BACK {first}, and then this again"),
@@ -459,11 +459,11 @@ mod tests {
         let told = of(RestartFault::GlobalCap, &[2]).to_string();
         assert_eq!(
             told,
-            "REFUSED GlobalCap: too many servers would be leaving, as server 2 has failed; \
+            "REFUSED GlobalCap: too many servers would be leaving, because server 2 has failed; \
              try: start the process of server 2 again, and then this"
         );
         let told = of(RestartFault::DomainCap, &[2, 4]).to_string();
-        assert!(told.contains("as servers 2, 4 have failed; "), "{told}");
+        assert!(told.contains("because servers 2, 4 have failed; "), "{told}");
         let without = Refusal::of_restart(RestartFault::GlobalCap, 1);
         assert_eq!(of(RestartFault::GlobalCap, &[]), without);
         let without = Refusal::of_restart(RestartFault::ShardCap, 1);

@@ -201,22 +201,22 @@ impl SmWord {
 /// All words.
 #[rustfmt::skip]
 const WORDS: [SmWord; 37] = [
-    SmWord::new("SHARDS", "how each shard stands, below the columns' names; other is its next or previous owner",
+    SmWord::new("SHARDS", "the stand of each shard, below the columns' names; other is its next or previous owner",
         Does::Bare(|it| Ok(ControlAnswer::Lines(it.host.shard_lines()).into()))).of_all(),
-    SmWord::new("SERVERS", "how each server stands, below the columns' names: the shards that it owns, admissions, and \
-        what a restart of it is doing; with --etcd also the number of its process, whether that leads, up to which \
+    SmWord::new("SERVERS", "the state of each server, below the columns' names: the shards that it owns, admissions, \
+        and what a restart of it is doing; with --etcd also the number of its process, whether that leads, up to which \
         revision it follows records, and where processes and clients reach it",
         Does::Bare(|it| Ok(ControlAnswer::Lines(it.host.server_lines()).into()))).of_all(),
-    SmWord::new("SETTINGS", "how the server runs",
+    SmWord::new("SETTINGS", "the server's configuration",
         Does::Bare(|it| Ok(ControlAnswer::Lines(it.host.settings_lines()).into()))).of_all(),
     SmWord::new("CONFIGURE", "with --etcd: the line of settings in force, and its number, which rises with each change",
         Does::Bare(configuration)).only(There::Cluster),
     SmWord::new("CONFIGURE LINE", "with --etcd: the line of settings LINE is in force from now on, for all processes: \
         servers that come or go, capacities, groups, domains and caps; shards and their bounds stay",
         Does::Word(configure)).only(There::Cluster),
-    SmWord::new("RESIZE n", "with --etcd: servers are 1 to n from now on; those that come are as the last one, and one \
-        that goes has stopped or failed, and has no shard", Does::Number(resize)).only(There::Cluster),
-    SmWord::new("LOOK k", "how shard k stands", Does::Number(look)).of_all(),
+    SmWord::new("RESIZE n", "with --etcd: servers are 1 to n from now on; new ones are set as the last one, and one \
+        that goes must have stopped or failed, and have no shard", Does::Number(resize)).only(There::Cluster),
+    SmWord::new("LOOK k", "the stand of shard k", Does::Number(look)).of_all(),
     SmWord::new("KEY key", "the number of the key's shard", Does::Before).of_all().of_texts(),
     SmWord::new("ASSIGN k a", "the vacant shard k gets the owner a", Does::Changes(ControlCommand::Assign)),
     SmWord::new("PREPARE_ADD k b", "a migration of shard k from its owner to server b begins",
@@ -226,7 +226,7 @@ const WORDS: [SmWord; 37] = [
     SmWord::new("ADD k", "b becomes the owner; the previous one still forwards", Does::Makes(ControlCommand::AddShard)),
     SmWord::new("DROP k", "the migration ends", Does::Makes(ControlCommand::DropShard)),
     SmWord::new("CANCEL k", "before ADD: the migration is given up", Does::Makes(ControlCommand::Cancel)),
-    SmWord::new("PAUSE k", "nobody executes on shard k, and who asks for it waits", Does::Makes(ControlCommand::Pause)),
+    SmWord::new("PAUSE k", "nobody executes on shard k, and its requests wait", Does::Makes(ControlCommand::Pause)),
     SmWord::new("RESUME k", "the owner of the paused shard k executes again", Does::Makes(ControlCommand::Resume)),
     SmWord::new("REASSIGN k b", "the paused shard k gets the owner b", Does::Changes(ControlCommand::Reassign)),
     SmWord::new("MIGRATE k b", "moves shard k to server b by a whole migration, under load", Does::Pair(migrate)),
@@ -234,8 +234,8 @@ const WORDS: [SmWord; 37] = [
         Does::Number(|_, server| Ok(TaskWork::Drain(Drain::new(server, false)).into()))),
     SmWord::new("SPREAD", "migrates shards from servers that have many to those that have few",
         Does::Bare(|_| Ok(TaskWork::Spread(Spread::default()).into()))),
-    SmWord::new("PLAN a", "where DRAIN a would have shards go; nothing is moved", Does::Number(plan_of)),
-    SmWord::new("PLAN", "where PLACE would", Does::Bare(|it| plan(it, 0))),
+    SmWord::new("PLAN a", "where DRAIN a would move shards; nothing is moved", Does::Number(plan_of)),
+    SmWord::new("PLAN", "where PLACE would put vacant shards; nothing is moved", Does::Bare(|it| plan(it, 0))),
     SmWord::new("PLACE", "gives each vacant shard an owner, as planned by the library",
         Does::Bare(|it| Ok(it.place()?.into()))),
     SmWord::new("ASK a", "asks for a restart of server a", Does::Makes(ControlCommand::Ask)),
@@ -247,14 +247,14 @@ const WORDS: [SmWord; 37] = [
     SmWord::new("FAIL a", "server a has failed: no request reaches it; refused while its process keeps a lease",
         Does::Makes(ControlCommand::Fail)),
     SmWord::new("RESTART a", "restarts server a: ASK, APPROVE, DRAIN, STOPPED, BACK, and its shards come home; with \
-        --etcd its process is to be ended and begun again once it is stopped",
+        --etcd you must end its process and start it again once it is stopped",
         Does::Number(|_, server| Ok(TaskWork::Restart(Restart::new(server)).into()))),
     SmWord::new("RESTART", "without --etcd: restarts all servers in turn",
         Does::Bare(|it| Ok(TaskWork::Rolling(Rolling::new(it.backend.servers())).into()))).only(There::OneProcess),
     SmWord::new("DUMP FILE", "writes all shards, with their stands and generations, into the file in --folder, in \
-        place of an earlier dump of the name",
+        place of an earlier dump of that name",
         Does::Word(|it, name| Ok(TaskWork::Dump(it.backend.dump(name)?).into()))).only(There::Memory),
-    SmWord::new("LOAD FILE", "has all shards hold and stand as in that file, in place of what they hold now",
+    SmWord::new("LOAD FILE", "gives all shards the content and the stands of that file, in place of their own",
         Does::Word(load)).only(There::Memory),
     SmWord::new("ROUTES", "with --etcd: the latest record's revision, and for each shard its owner, and where clients \
         reach that",
@@ -262,7 +262,7 @@ const WORDS: [SmWord; 37] = [
         .only(There::Cluster).of_all(),
     SmWord::new("CALL c n COMMAND ..", "where data outlives the process: a write without reading, once for number n of \
         client c", Does::Before).only(There::Stores).of_all().of_texts(),
-    SmWord::new("COMPACT", "with --data or --etcd: makes a base of each shard of this process, so that room comes back",
+    SmWord::new("COMPACT", "with --data or --etcd: makes a base of each shard of this process, which frees room",
         Does::Here(|host, reply_to| host.compact(reply_to))).only(There::Stores).of_texts(),
     SmWord::new("AT a COMMAND ..", "sends a command with keys of one shard to server a, as a client with an old map \
         does", Does::Before).of_all().of_texts(),
@@ -417,7 +417,7 @@ mod tests {
 
     #[test]
     fn words_and_names_have_a_meaning() {
-        assert_eq!(meanings("look"), ["SM LOOK k: how shard k stands"]);
+        assert_eq!(meanings("look"), ["SM LOOK k: the stand of shard k"]);
         assert_eq!(meanings("RESTART").len(), 2);
         let told = "NotNow: a process hasn't read yet that the shard was taken, or a server hasn't acked the shard's \
                     record yet; try: try again; if that server is gone, SM FAIL a";

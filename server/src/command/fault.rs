@@ -346,7 +346,7 @@ fn composed(f: &mut fmt::Formatter<'_>, fault: &Fault) -> fmt::Result {
         Fault::NotAdmitted(fault) => not_admitted(f, *fault),
         Fault::NotDurable(name) => write!(
             f,
-            "NOTDURABLE {name} isn't there where data outlives the process"
+            "NOTDURABLE {name} doesn't exist if data outlives the process"
         ),
         Fault::NotDone(shard, why) => not_done(f, *shard, why),
         Fault::TooLong => write!(f, "TOOLONG a value has at most {MAX_TEXT} bytes"),
