@@ -128,6 +128,12 @@ impl ControlCommand {
         }
     }
 
+    /// Returns the words of all commands.
+    pub fn words() -> impl Iterator<Item = &'static str> {
+        let commands = (0..=u8::MAX).filter_map(|kind| ControlCommand::of(kind, 0, 1));
+        commands.map(ControlCommand::word)
+    }
+
     /// Returns its kind, its shard and its server, as the library numbers them. A part that it doesn't name is 0.
     pub(crate) fn parts(self) -> (u8, u16, u16) {
         match self.given() {
@@ -203,5 +209,13 @@ mod tests {
             (Next::of(DirectorStep::WAITS, 0, 0), Next::of(16, 0, 0)),
             (Some(Next::Waits), None)
         );
+    }
+
+    #[test]
+    fn each_command_has_its_own_word() {
+        let words: Vec<_> = ControlCommand::words().collect();
+        let unlike: std::collections::BTreeSet<_> = words.iter().collect();
+        assert_eq!((words.len(), unlike.len()), (14, 14), "{words:?}");
+        assert!(unlike.contains(&"assign") && unlike.contains(&"fail"));
     }
 }

@@ -1,5 +1,6 @@
 //! The counters of a thread, which other threads read.
 use crate::metric::{Info, Metric, Section, Source};
+use durkenzo_driver::ControlCommand;
 use std::collections::BTreeMap;
 use std::sync::atomic::{AtomicU64, Ordering};
 use std::sync::{Mutex, MutexGuard, PoisonError};
@@ -96,17 +97,25 @@ pub struct AsServer {
     pub errors: Counter,
 }
 
-/// How often each kind of change was made.
-#[derive(Debug, Default)]
+/// How often this process made each kind of command.
+#[derive(Debug)]
 pub struct ChangesMade(Mutex<BTreeMap<&'static str, u64>>);
 
+impl Default for ChangesMade {
+    /// Makes the counts, all 0, so that `/metrics` has each of them from the start.
+    fn default() -> ChangesMade {
+        let counts = ControlCommand::words().map(|it| (it, 0));
+        ChangesMade(Mutex::new(counts.collect()))
+    }
+}
+
 impl ChangesMade {
-    /// Counts a change of this kind.
+    /// Counts a command of this kind.
     pub fn add(&self, word: &'static str) {
         *self.words().entry(word).or_default() += 1;
     }
 
-    /// Returns how often each kind of change was made, except for those that never were.
+    /// Returns how often each kind of command was made.
     pub fn counts(&self) -> BTreeMap<&'static str, u64> {
         self.words().clone()
     }

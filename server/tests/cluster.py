@@ -259,8 +259,7 @@ def watched_numbers_are_told(port, client):
     read = set(re.findall(r"durkenzo_(\w+)", ALERTS.read_text(encoding="utf-8") + " ".join(expressions)))
     with client, contextlib.suppress(Refused):
         client.ask("NOSUCH")
-    # Only a process that has led tells which changes it made.
-    told = {it.split("{")[0] for it in numbers(port)} | {"changes_total"}
+    told = {it.split("{")[0] for it in numbers(port)}
     assert read <= told, read - told
     if shutil.which("promtool"):
         rules = [{"record": f"shown:{at}", "expr": it} for at, it in enumerate(expressions)]

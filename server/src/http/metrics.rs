@@ -91,7 +91,8 @@ fn by_name(registry: &Registry, cluster: &Cluster) -> prometheus::Result<()> {
             errors.set(&[&name], count);
         }
     }
-    let changes = Family::new(registry, "changes_total", "Changes of shards", &["change"])?;
+    let help = "Changes of shards and steps of restarts that this process made";
+    let changes = Family::new(registry, "changes_total", help, &["change"])?;
     for (word, count) in cluster.changes_made.counts() {
         changes.set(&[word], count);
     }
