@@ -463,7 +463,10 @@ mod tests {
              try: start the process of server 2 again, and then this"
         );
         let told = of(RestartFault::DomainCap, &[2, 4]).to_string();
-        assert!(told.contains("because servers 2, 4 have failed; "), "{told}");
+        assert!(
+            told.contains("because servers 2, 4 have failed; "),
+            "{told}"
+        );
         let without = Refusal::of_restart(RestartFault::GlobalCap, 1);
         assert_eq!(of(RestartFault::GlobalCap, &[]), without);
         let without = Refusal::of_restart(RestartFault::ShardCap, 1);

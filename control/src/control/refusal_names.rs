@@ -49,6 +49,7 @@ pub const NAMES: [(&str, &str, &str); 32] = [
 
 /// Each error by which a server answers a command and that Redis hasn't: names, and when. docs/SERVER.md has the same
 /// rows, and `./sm help` reads them here.
+#[rustfmt::skip]
 pub const ERRORS: [(&str, &str); 10] = [
     ("CROSSSHARD", "the keys of one transaction are of several shards"),
     ("SHARDPAUSED, SHARDVACANT, SERVERDOWN, SHARDBUSY", "the command waited in vain for `--wait`"),
