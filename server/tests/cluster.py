@@ -248,7 +248,8 @@ def a_process_without_etcd_says_so(program):
             for it in several.etcd.processes:
                 it.send_signal(signal.SIGCONT)
         eventually(lambda: probed(port, "/ready") == (200, "ok\n"))
-        leases = lambda: [it["level"] for it in logged(several.processes[server]) if " lease" in it["fields"]["message"]]
+        lines = lambda: logged(several.processes[server])
+        leases = lambda: [it["level"] for it in lines() if " lease" in it["fields"]["message"]]
         eventually(lambda: leases() == ["INFO", "WARN", "INFO"])
 
 

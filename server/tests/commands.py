@@ -575,7 +575,7 @@ def words_of_sm_say_how_they_are_written(program):
             (("SM", "ROUTES"), "REFUSED NotThere: SM ROUTES exists only with --etcd;"),
             (("SM", "CALL", 1, 1, "DEL", "a"), "REFUSED NotThere: SM CALL exists only with --data or --etcd;"),
             (("SM", "COMPACT"), "REFUSED NotThere: SM COMPACT exists only with --data or --etcd;"),
-            (("SM", "HELP", "nothing"), "REFUSED UnknownWord: SM has no such word, and no refusal or error has this name;"),
+            (("SM", "HELP", "nothing"), "REFUSED UnknownWord: SM has no such word, and no refusal or error"),
         ]:
             client.send(*words)
             found = client.read()

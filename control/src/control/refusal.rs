@@ -93,7 +93,7 @@ impl Refusal {
     /// Returns the refusal that the shard isn't at its destination.
     pub fn not_moved(shard: u16, server: u16) -> Refusal {
         let reason = format!(
-            "shard {shard} isn't at server {server}: that server failed, or somebody made the shard stay or go elsewhere"
+            "shard {shard} isn't at server {server}: that one failed, or somebody made it stay or go elsewhere"
         );
         let advice = format!("SM LOOK {shard} tells where it is");
         Refusal::new("NotMoved", reason, advice)
