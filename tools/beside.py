@@ -12,7 +12,8 @@ and # starts a comment. Other tools call
 
     refreshed(PART)     to bring the tree of tests or bench up to date; returns its folder, in which crates/NAME are the
                         crates of crates.txt and of PART/crates.list, as copies, beside a crates.txt of both and
-                        HANDLES. There each command of `rt` works
+                        HANDLES. There each command of `rt` works. The part PROOFS has no crates of its own and no
+                        must-fail/, so that `rt ci` proves there, and tools/testing/together.py tries the edits
     folders(PART)       for each crate of PART/crates.list by its name, in the list's order: its folder here
     listed(PART)        for the same with each one's line of crates.txt: name: (folder, line)
     take_back(PART, TREE, CRATE)    to write a crate's files in a tree to its folder in the repository
@@ -33,6 +34,8 @@ import shutil
 import sys
 
 TOP = pathlib.Path(__file__).resolve().parent.parent
+# The part that has the crates of crates.txt alone.
+PROOFS = "proofs"
 # How a file's name ends in the repository and in the tree, by its folder in the crate.
 ENDINGS = {"src": (".rs", ".rt"), "specs": (".antt.txt", ".antt"), "proofs": (".antt.txt", ".antt")}
 
@@ -40,6 +43,8 @@ ENDINGS = {"src": (".rs", ".rt"), "specs": (".antt.txt", ".antt"), "proofs": (".
 def listed(part):
     """Returns the folder and the line of crates.txt of each crate of the part, by its name."""
     found = {}
+    if part == PROOFS:
+        return found
     for row in (TOP / part / "crates.list").read_text(encoding="utf-8").split("\n"):
         folder, _, line = row.partition("#")[0].strip().partition(" ")
         if folder:
@@ -78,6 +83,8 @@ def wanted(part):
     found = {}
     for name, folder in {**crates, **beside}.items():
         for file in files_of(folder):
+            if part == PROOFS and file.parts[0] == "must-fail":
+                continue
             there = name_in_tree(file) if name in beside else file
             found[pathlib.Path("crates", name, there)] = (folder / file).read_bytes()
     lines = [(TOP / "crates.txt").read_text(encoding="utf-8").strip("\n"), *(line for _, line in listed(part).values())]

@@ -12,6 +12,8 @@ from limited import below, fields_of
 
 TICKS = os.sysconf("SC_CLK_TCK")
 PARTS = ("proof", "tests", "edits")
+# What the names of the folders begin with in which edits are tried.
+EDITED = "/sm-edit-"
 
 
 class Check:
@@ -56,7 +58,7 @@ def look(root, checks):
             memory = re.search(r"VmHWM:\s+(\d+)", read(pid, "status"))
         except (OSError, IndexError, ValueError):  # it has just ended
             continue
-        part = "edits" if "/rt-edit-" in folder else "tests" if "--test" in words else "proof"
+        part = "edits" if EDITED in folder else "tests" if "--test" in words else "proof"
         if not (check := checks.get((pid, fields[19]))):
             check = Check(pid, jobs_of(words), crate, part, folder, "--incremental" in words, now)
             checks[pid, fields[19]] = check

@@ -1,6 +1,7 @@
 """Checks that the forms that were asked for are there, that each crate has the layout of `rt fmt`, that its lines keep
 within their columns, and that each name that its files import is used. `rt` has no command for this, but the program
 behind it has."""
+import os
 import pathlib
 import shutil
 import subprocess
@@ -20,6 +21,15 @@ def files_of(folder):
     return [str(it.relative_to(folder)) for it in found if it.suffix in ENDINGS]
 
 
+def strays():
+    """Returns the files of the toolchain outside of crates/, where nothing would prove them."""
+    found = []
+    for at, below, names in os.walk(sources.TOP):
+        below[:] = [it for it in below if it not in (".git", "out", "crates", "__pycache__")]
+        found += [os.path.relpath(f"{at}/{it}", sources.TOP) for it in names if it.endswith(ENDINGS)]
+    return found
+
+
 def of_benches(room):
     """Returns the folders of the crates that benches time, once they are crates in this room."""
     for path, text in beside.wanted("bench").items():
@@ -34,6 +44,8 @@ def laid_out(room):
     yield tool("asked")
     yield tool("long-lines")
     yield tool("unused")
+    found = strays()
+    yield verdict("each file of the toolchain is a crate's", not found, f"these stand outside of crates/: {found}")
     for folder in [*(sources.CRATES / it for it in sources.crates()), *of_benches(room)]:
         command = [RATTLE, "fmt", "--check", *files_of(folder)]
         ran = subprocess.run(command, cwd=folder, capture_output=True, text=True, errors="replace")

@@ -43,14 +43,14 @@ def arguments():
     )
     endings = parser.add_mutually_exclusive_group()
     endings.add_argument(
-        "--keep-going", action="store_true", help="tries all, whatever fails (what it does where nothing is said)"
+        "--keep-going", action="store_true", help="tries all, whatever fails (as without an option)"
     )
     endings.add_argument("--fail-fast", action="store_true", help="ends at the first failure")
     parser.add_argument(
         "--proved-tests", action="store_true", help="proves the tests too, which takes some 70 processor minutes more"
     )
     parser.add_argument(
-        "--write-costs", action="store_true", help="writes what a whole run took into tools/testing/costs.md"
+        "--write-costs", action="store_true", help="writes the costs of a whole run into tools/testing/costs.md"
     )
     given = parser.parse_args()
     if given.quick and (given.crates or given.proved_tests):

@@ -27,7 +27,7 @@ def fault_of(command, status, output, complaint="", given=os.devnull, env=None):
         return f"{shown}: exit status {ran.status}, and not {status}; it said: {said[-400:]}"
     if ran.output != output:
         at = next((n for n, (a, b) in enumerate(zip(ran.output, output)) if a != b), min(len(ran.output), len(output)))
-        return f"{shown}: the output differs from what is wanted at line {output[:at].count(10) + 1}"
+        return f"{shown}: the output differs from the wanted one at line {output[:at].count(10) + 1}"
     if complaint not in said or said and not complaint:
         return f"{shown}: standard error is {said[-400:]!r}, without {complaint!r}"
     return None

@@ -1,41 +1,47 @@
-"""The part of ./test that proves: `rt ci`, whose output is read as it comes, and the cost of each crate."""
+"""The part of ./test that proves: `rt ci`, whose output is read as it comes, then the must-fail edits, and the cost of
+each crate."""
 import collections
-import contextlib
-import pathlib
+import concurrent.futures
+import os
+import queue
 import re
 import signal
 import subprocess
 import threading
 import time
 
+import beside
 import limited
-import sources
+import must_fail
 from testing import checks, costs
 from testing.cores import Cores
 from testing.part import Verdict
+from testing.together import Trial, name_of
 
 STEP = 1
-# Lines that say why a crate wasn't proved, and how many of them are shown.
+# Lines that tell why a crate wasn't proved, and how many of them are shown.
 TELLING = re.compile(r"error|not proved|no proof|fails the verdict|killed|^rt: ")
 SHOWN = 40
 ENDED = re.compile(r"^rt: (\w+)(: its tests are)? (proved|NOT PROVED|is kept.*)$")
-EDIT = re.compile(r"^rt: (must-fail \S+): (.*)$")
-REFUSED = "refused, as it must be"
 # The programs and tests that failed when they ran, after all was proved.
 RAN = re.compile(r"\S+ \((?:run|tests)\)")
 LAST = re.compile(r"^(\d+) passed, (\d+) failed")
 
 
 class Proofs:
-    """A run of `rt ci`, with the words that it is given; without words there is nothing to prove."""
+    """A run of `rt ci`, with the words that it is given, and of the edits of the crates that it proves; without words
+    there is nothing to prove. What an earlier run here passed of the same files is taken as it is, unless all is tried
+    anew."""
 
     name = "proofs"
 
     def __init__(self, words, crates):
         self.words, self.crates, self.known = words, crates if words else [], costs.read()
-        self.checks, self.proved, self.block, self.process, self.now = {}, set(), [], None, []
+        self.edits = {it: must_fail.edits_of(it) for it in self.crates}
+        self.checks, self.proved, self.tried = {}, {}, collections.Counter()
+        self.block, self.process, self.now, self.trials, self.is_over = [], None, [], [], False
         self.last, self.has_failed = collections.deque([""], SHOWN), False
-        self.say, self.doubted = print, set()
+        self.say = print
 
     # Returns the answer to Runner.load.
 
@@ -43,16 +49,10 @@ class Proofs:
         return sorted({f"{it.crate} ({it.part})" for it in [*self.now]})
 
     def of(self):
-        return len(self.crates) + sum(map(len, map(edits_of, self.crates)))
+        return len(self.crates) + sum(map(len, self.edits.values()))
 
     def done(self):
-        return len(self.proved) + sum(min(self.tried(it), len(edits_of(it))) for it in self.crates)
-
-    def tried(self, crate):
-        """Returns how many of the crate's edits were tried. If several checks run, the first one makes the base from
-        which the others begin."""
-        over = [it for it in [*self.checks.values()] if it.crate == crate and it.part == "edits" and it not in self.now]
-        return len(over) if len(edits_of(crate)) == 1 else max(len(over) - 1, 0)
+        return len(self.proved) + self.tried.total()
 
     def left(self):
         """Returns the processor seconds left by the costs of the last run, less the seconds that were spent on crates
@@ -65,45 +65,65 @@ class Proofs:
                 for part in checks.PARTS
             }
             seconds += 0 if crate in self.proved else max(cost.proof - spent["proof"], 0)
-            is_tried = self.tried(crate) >= len(edits_of(crate))
+            is_tried = self.tried[crate] >= len(self.edits[crate])
             seconds += 0 if is_tried else max(cost.edits - spent["edits"], 0)
         return seconds
 
     # Runs the part.
 
-    def work(self, room):
-        """Runs `rt ci`, and gives a verdict for each crate, must-fail edit and program as it says so."""
-        how = {"stdout": subprocess.PIPE, "stderr": subprocess.STDOUT, "text": True, "errors": "replace"}
-        self.process = subprocess.Popen(self.words, **how)
+    def work(self, _room):
+        """Runs `rt ci` in a tree of its own, then tries the edits over the libraries that it built there, and gives a
+        verdict for each crate, program and edit."""
+        tree = beside.refreshed(beside.PROOFS)
         watch = threading.Thread(target=self.watch, daemon=True)
         watch.start()
+        yield from self.prove(tree)
+        yield from self.try_edits(tree)
+        self.is_over = True
+        watch.join()
+
+    def prove(self, tree):
+        how = {"stdout": subprocess.PIPE, "stderr": subprocess.STDOUT, "text": True, "errors": "replace"}
+        self.process = subprocess.Popen(self.words, cwd=tree, **how)
         for line in self.process.stdout:
             for found in self.read(line.rstrip("\n")):
                 self.has_failed = self.has_failed or found.reason is not None
                 yield found
         status = self.process.wait()
-        watch.join()
         if (status or not LAST.match(self.last[-1])) and not self.has_failed:
             yield Verdict("rt ci", "\n".join([f"it ended with {status}; its last lines:", *self.last]))
 
+    def try_edits(self, tree):
+        """Tries the edits of each crate that was proved, on each processor those of one crate, the dearest first."""
+        dearest = sorted(self.crates, key=lambda it: -self.known.get(it, costs.Cost(60, 60, 1, 120)).edits)
+        self.trials = [Trial(it, tree, "--anew" in self.words) for it in dearest if self.proved.get(it)]
+        found, count = queue.SimpleQueue(), sum(len(self.edits[it.crate]) for it in self.trials)
+        with concurrent.futures.ThreadPoolExecutor(len(os.sched_getaffinity(0))) as pool:
+            for trial in self.trials:
+                pool.submit(self.tell, trial, found)
+            for _ in range(count):
+                crate, verdict = found.get()
+                self.tried[crate] += 1
+                yield verdict
+
+    def tell(self, trial, found):
+        """Puts a verdict for each edit of the crate, whatever goes wrong."""
+        left = {name_of(it) for it in self.edits[trial.crate]}
+        try:
+            for verdict in trial.verdicts():
+                left.discard(verdict.name)
+                found.put((trial.crate, verdict))
+        except Exception as error:  # the other crates go on
+            for name in sorted(left):
+                found.put((trial.crate, Verdict(name, f"{type(error).__name__}: {error}")))
+
     def watch(self):
         cores = Cores()
-        while self.process.poll() is None:
-            self.now = checks.look(self.process.pid, self.checks)
+        while not self.is_over:
+            self.now = checks.look(os.getpid(), self.checks)
             cores.keep(self.now)
-            for check in self.now:
-                self.doubt(check)
             time.sleep(STEP)
         self.now = []
-
-    def doubt(self, check):
-        """Says early which edit is likely to fail. `rt ci` says so at its end, but tries an edit that wasn't refused
-        once more from nothing, while others go on from a base."""
-        edits = edits_of(check.crate)
-        if check.part == "edits" and not check.goes_on and len(edits) > 1 and check not in self.doubted:
-            self.doubted.add(check)
-            names = [it.stem for it in edits if stands_in(it, check.folder)]
-            self.say(f"{check.crate}: {' or '.join(names)} is tried once more, likely as it was not refused")
 
     def read(self, line):
         """Yields the verdicts of a line of `rt ci`."""
@@ -112,11 +132,9 @@ class Proofs:
         if line.startswith("== "):
             self.block = []
         elif found := ENDED.match(line):
-            self.proved.add(found[1])
             is_well = found[3] != "NOT PROVED"
+            self.proved[found[1]] = is_well and self.proved.get(found[1], True)
             yield Verdict(f"{found[1]}{': tests' if found[2] else ''} proved", None if is_well else self.reasons())
-        elif found := EDIT.match(line):
-            yield Verdict(found[1], None if found[2].startswith(REFUSED) else found[2])
         elif line.startswith("rt: FAILED: "):
             yield from [Verdict(it, "\n".join(self.last)) for it in RAN.findall(line)]
 
@@ -126,19 +144,8 @@ class Proofs:
 
     def stop(self):
         """Ends the run, with all that it started."""
+        self.is_over = True
+        for trial in self.trials:
+            trial.stop()
         if self.process and self.process.poll() is None:
             limited.end(self.process.pid, signal.SIGTERM)
-
-
-def stands_in(edit, folder):
-    """Returns whether a copy of the crate has the new text of the edit."""
-    lines = [it.split(": ", 1) for it in edit.read_text(encoding="utf-8").splitlines() if ": " in it]
-    files, news = [it for kind, it in lines if kind == "file"], [it for kind, it in lines if kind == "new"]
-    with contextlib.suppress(OSError):
-        text = "".join(pathlib.Path(folder, it).read_text(encoding="utf-8") for it in files)
-        return all(it in text for it in news)
-    return False
-
-
-def edits_of(crate):
-    return sorted((sources.CRATES / crate / "must-fail").glob("*.edit"))

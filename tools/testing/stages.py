@@ -1,5 +1,4 @@
 """The parts of ./test in their stages: cheap parts first, then the proofs, then the proved programs."""
-import re
 import shutil
 
 import beside
@@ -12,6 +11,7 @@ from testing import (
     layout,
     library,
     packed,
+    prover,
     server,
     simulation,
     tests,
@@ -44,9 +44,7 @@ BY_RATTLE = sources.CRATES / "sm_cli/out/sm_cli.by-rattle"
 
 def listed():
     """Returns the crates of crates.txt, with the crates that each stands on."""
-    lines = (sources.TOP / "crates.txt").read_text(encoding="utf-8").splitlines()
-    found = [re.match(r"(\w+)[^:]*:(.*)", it) for it in lines]
-    return {it[1]: it[2].split() for it in found if it}
+    return {name: line.uses for name, line in prover.listed().items()}
 
 
 def crates_of_tests():
@@ -166,7 +164,7 @@ def faults(say):
             Part("what the program calls", opens_nothing(PROVED)),
         ]
     else:
-        say("cc isn't installed: no allocation is refused, no stream fails, and nobody looks what the program calls")
+        say("cc isn't installed: no allocation is refused, no stream fails, and nobody looks which functions the program calls")
     if shutil.which("valgrind"):
         parts.append(Part("under valgrind, proved", program.watched))
     else:
@@ -175,11 +173,15 @@ def faults(say):
 
 
 def program(_room):
-    """The results of the proofs. `rt ci` may have kept a program that it built before. It is as new as its sources all
-    the same, and by that ./sm sees that it is proved."""
+    """The results of the proofs, from the tree in which they ran. `rt ci` may have kept a program that it built before.
+    It is as new as its sources all the same, and by that ./sm sees that it is proved."""
+    tree = beside.tree_of(beside.PROOFS)
+    PROVED.parent.mkdir(exist_ok=True)
+    for made in (PROVED, BY_RATTLE):
+        made.unlink(missing_ok=True)
+        if (there := tree / made.relative_to(sources.TOP)).exists():
+            shutil.copy(there, made)
     yield verdict(f"{PROVED.name} was proved and built", PROVED.exists())
-    if PROVED.exists():
-        PROVED.touch()
     if not library.is_there():
         print("`rt ci` builds no static library: what stands on one is tried over those that are built without proof")
         yield from library.without_proof()
