@@ -1,4 +1,4 @@
-"""The costs of a run of proofs: the sums, the longest tasks, the cost of an edit, and how long processors idled."""
+"""The costs of a run of proofs: the sums, the longest tasks, the cost of a check of edits, and how long processors idled."""
 import collections
 import os
 import textwrap
@@ -19,7 +19,7 @@ def longest(found):
 
 
 def further(found):
-    """Returns the seconds and the crate of each edit but a crate's first, the dearest first."""
+    """Returns the seconds and the crate of each check of edits but a crate's first, the dearest first."""
     told, seen = [], set()
     for check in sorted((it for it in found if it.part == "edits"), key=lambda it: it.began):
         if check.crate in seen:
@@ -65,7 +65,7 @@ def lines(found):
     if edits:
         middle, most = edits[len(edits) // 2][0], edits[0]
         told.append(
-            f"An edit after the first of its crate: {middle:.0f} s in the middle of {len(edits)}, "
+            f"A check of edits after the first of its crate: {middle:.0f} s in the middle of {len(edits)}, "
             f"{most[0]:.0f} s at most ({most[1]})."
         )
     told.append("Fewer than two checks: %.1f minutes at the start, %.1f at the end, %.1f in between." % idle(found))
