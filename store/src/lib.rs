@@ -51,6 +51,7 @@ mod revision;
 mod room;
 mod store;
 mod store_counts;
+mod store_size;
 mod transaction;
 mod watch;
 
@@ -71,5 +72,6 @@ pub use revision::Revision;
 pub use room::Room;
 pub use store::{Done, Store};
 pub use store_counts::{StoreCounts, TRANSACTION_BOUNDS};
+pub use store_size::StoreSize;
 pub use transaction::{Compare, Outcome, Put, Transaction};
 pub use watch::{KeyChange, Seen, Watch, Watcher};

@@ -1,11 +1,11 @@
 use crate::{
     CompactError, Done, LeaseError, LeaseId, Outcome, ReadError, Reading, Store, StoreCounts,
-    Transaction, Watch, Watcher, WriteError,
+    StoreSize, Transaction, Watch, Watcher, WriteError,
 };
 use std::sync::Arc;
 use std::time::{Duration, Instant};
 
-/// A store that counts the outcome of each transaction, and how long it took.
+/// A store that counts the outcome of each transaction, how long it took, and the compactions of its history.
 pub struct MeasuredStore<S> {
     store: S,
     counts: Arc<StoreCounts>,
@@ -91,8 +91,24 @@ impl<S: Store> Store for MeasuredStore<S> {
         self.store.left()
     }
 
+    fn size(&self) -> Result<Option<StoreSize>, ReadError> {
+        let size = self.heard(self.store.size());
+        if let Ok(Some(size)) = size {
+            self.counts.note_size(size);
+        }
+        size
+    }
+
+    fn compact_history(&self) -> Result<(), CompactError> {
+        let compacted = self.heard(self.store.compact_history());
+        self.counts.note_compaction(compacted.is_ok());
+        compacted
+    }
+
     fn compact(&self) -> Result<(), CompactError> {
-        self.heard(self.store.compact())
+        let compacted = self.heard(self.store.compact());
+        self.counts.note_compaction(compacted.is_ok());
+        compacted
     }
 }
 
@@ -128,6 +144,19 @@ mod tests {
         counts.note_written(1);
         assert!(!counts.is_full());
         assert_eq!(counts.outcomes()[3], ("failed", 1));
+    }
+
+    #[test]
+    fn compactions_are_counted_and_the_last_size_is_kept() {
+        let store = MeasuredStore::new(Embedded::in_memory());
+        assert_eq!(store.counts().size(), StoreSize::default());
+        store.compact_history().unwrap();
+        store.counts().note_compaction(false);
+        assert_eq!(store.counts().compactions(), [("made", 1), ("failed", 1)]);
+        let (file, used, quota) = (9, 8, Some(10));
+        let size = StoreSize { file, used, quota };
+        store.counts().note_size(size);
+        assert_eq!(store.counts().size(), size);
     }
 
     #[test]

@@ -1,6 +1,6 @@
 use crate::{
     CompactError, Done, KeyPrefix, LeaseError, LeaseId, Outcome, ReadError, Reading, Seen, Store,
-    Transaction, Watch, Watcher, WriteError,
+    StoreSize, Transaction, Watch, Watcher, WriteError,
 };
 use std::time::Duration;
 
@@ -120,6 +120,18 @@ impl<S: Store> Store for PrefixedStore<S> {
 
     fn left(&self) -> Option<u64> {
         self.store.left()
+    }
+
+    /// Returns nothing if there is a prefix, because the history is that of others, too.
+    fn size(&self) -> Result<Option<StoreSize>, ReadError> {
+        match self.prefix.is_empty() {
+            true => self.store.size(),
+            false => Ok(None),
+        }
+    }
+
+    fn compact_history(&self) -> Result<(), CompactError> {
+        self.store.compact_history()
     }
 
     fn compact(&self) -> Result<(), CompactError> {

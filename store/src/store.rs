@@ -1,6 +1,6 @@
 use crate::{
-    CompactError, LeaseError, LeaseId, Outcome, ReadError, Reading, Transaction, Watch, Watcher,
-    WriteError,
+    CompactError, LeaseError, LeaseId, Outcome, ReadError, Reading, StoreSize, Transaction, Watch,
+    Watcher, WriteError,
 };
 use std::sync::mpsc;
 use std::time::Duration;
@@ -110,7 +110,31 @@ pub trait Store: Send + std::marker::Sync {
         None
     }
 
-    /// Discards deleted and overwritten values, and has the store take writes again if that makes room.
+    /// Returns how much room the data takes, so that the caller knows when to compact history. Returns nothing if the
+    /// store needs nobody for that, or if others share it, who may need its history.
+    ///
+    /// # Errors
+    ///
+    /// If the store can't be asked, as [`ReadError`] says.
+    fn size(&self) -> Result<Option<StoreSize>, ReadError> {
+        Ok(None)
+    }
+
+    /// Compacts history up to the present: values that were overwritten or deleted are discarded, and later values take
+    /// their room. The call doesn't wait for that, and no member pauses.
+    ///
+    /// No process needs an earlier revision. A reading whose moment is compacted begins again, and so does a watch whose
+    /// next change is compacted.
+    ///
+    /// # Errors
+    ///
+    /// If the store can't be asked, as [`CompactError`] says. If it may be done by now, it may be asked again.
+    fn compact_history(&self) -> Result<(), CompactError> {
+        Ok(())
+    }
+
+    /// Compacts history, returns its room to the system, and has the store take writes again if that makes room.
+    /// Members may pause in turn.
     ///
     /// # Errors
     ///

@@ -1,4 +1,4 @@
-use crate::{Outcome, WriteError};
+use crate::{Outcome, StoreSize, WriteError};
 use std::sync::atomic::{AtomicBool, AtomicU64, Ordering};
 use std::time::{Duration, Instant};
 
@@ -22,6 +22,13 @@ pub struct StoreCounts {
     /// Microseconds from the beginning to the last answer.
     answered: AtomicU64,
     is_full: AtomicBool,
+    /// The compactions of history that were made, and those that failed or may have.
+    compacted: AtomicU64,
+    uncompacted: AtomicU64,
+    /// The size of the store as it was read last.
+    file: AtomicU64,
+    used: AtomicU64,
+    quota: AtomicU64,
 }
 
 impl StoreCounts {
@@ -38,6 +45,11 @@ impl StoreCounts {
             micros: AtomicU64::default(),
             answered: AtomicU64::default(),
             is_full: AtomicBool::default(),
+            compacted: AtomicU64::default(),
+            uncompacted: AtomicU64::default(),
+            file: AtomicU64::default(),
+            used: AtomicU64::default(),
+            quota: AtomicU64::default(),
         }
     }
 
@@ -78,6 +90,40 @@ impl StoreCounts {
     pub(crate) fn note_answer(&self, now: Instant) {
         let micros = now.saturating_duration_since(self.begun).as_micros() as u64;
         self.answered.fetch_max(micros, Ordering::Relaxed);
+    }
+
+    pub(crate) fn note_compaction(&self, is_made: bool) {
+        let count = match is_made {
+            true => &self.compacted,
+            false => &self.uncompacted,
+        };
+        count.fetch_add(1, Ordering::Relaxed);
+    }
+
+    pub(crate) fn note_size(&self, size: StoreSize) {
+        self.file.store(size.file, Ordering::Relaxed);
+        self.used.store(size.used, Ordering::Relaxed);
+        let quota = size.quota.unwrap_or(0);
+        self.quota.store(quota, Ordering::Relaxed);
+    }
+
+    /// Returns how many compactions of the store's history were made, and how many failed.
+    pub fn compactions(&self) -> [(&'static str, u64); 2] {
+        let read = |it: &AtomicU64| it.load(Ordering::Relaxed);
+        [
+            ("made", read(&self.compacted)),
+            ("failed", read(&self.uncompacted)),
+        ]
+    }
+
+    /// Returns the size of the store as it was read last. It is 0 if nobody asked the store.
+    pub fn size(&self) -> StoreSize {
+        let quota = self.quota.load(Ordering::Relaxed);
+        StoreSize {
+            file: self.file.load(Ordering::Relaxed),
+            used: self.used.load(Ordering::Relaxed),
+            quota: Some(quota).filter(|it| *it > 0),
+        }
     }
 
     /// Returns how many transactions were made, were lost because of a compare, have an unknown outcome, and failed.

@@ -256,6 +256,95 @@ fn says_that_it_is_too_large() {
     assert!(matches!(made, Err(WriteError::TooLarge(_))), "{made:?}");
 }
 
+/// Waits until the store uses at most so many bytes. A member counts room as free from its next write on, so all members
+/// get writes meanwhile.
+fn uses_at_most(store: &Etcd, all: &Etcd, bytes: u64) {
+    let end = Instant::now() + ASIDE;
+    loop {
+        made(all.make(Transaction::new().put("b", "")));
+        let size = store.size().expect("it answers").expect("members tell it");
+        assert!(size.used <= size.file, "{size:?}");
+        if size.used <= bytes {
+            return;
+        }
+        assert!(Instant::now() < end, "{size:?} isn't {bytes}");
+        thread::sleep(Duration::from_millis(100));
+    }
+}
+
+/// A member that is away compacts once it is back.
+#[test]
+fn compacts_history_though_a_member_is_away() {
+    let Some(mut members) = Member::start_cluster(3) else {
+        return;
+    };
+    let endpoints: Vec<_> = members.iter().map(|it| it.endpoint.clone()).collect();
+    let endpoints: Vec<_> = endpoints.iter().map(String::as_str).collect();
+    let store = on(&endpoints, PATIENCE);
+    for _ in 0..100 {
+        made(store.make(Transaction::new().put("a", vec![7; 200_000])));
+    }
+    let size = store.size().expect("it answers").expect("members tell it");
+    assert!(size.used > 20_000_000, "{size:?}");
+    members[0].kill();
+    store.compact_history().expect("two are enough");
+    uses_at_most(&store, &store, size.used / 4);
+    members[0].begin_again();
+    uses_at_most(&members[0].store(), &store, size.used / 4);
+    assert_eq!(store.read(&[b"a"]).expect("a reading").pairs.len(), 1);
+    store.compact_history().expect("again");
+}
+
+/// Returns a member that answers its calls with these, one after another.
+fn answerer(told: &'static [(&'static str, &'static str)]) -> String {
+    let listener = TcpListener::bind(("127.0.0.1", 0)).expect("a port");
+    let endpoint = format!("http://{}", listener.local_addr().expect("its address"));
+    thread::spawn(move || {
+        for (stream, (status, body)) in listener.incoming().zip(told) {
+            let mut stream = stream.expect("a caller");
+            let (mut asked, mut some) = (Vec::new(), [0; 4_096]);
+            while !asked.ends_with(b"}") {
+                match stream.read(&mut some) {
+                    Ok(length @ 1..) => asked.extend_from_slice(&some[..length]),
+                    _ => break,
+                }
+            }
+            let head = format!("Content-Length: {}\r\nConnection: close", body.len());
+            let _ = write!(stream, "HTTP/1.1 {status}\r\n{head}\r\n\r\n{body}");
+        }
+    });
+    endpoint
+}
+
+/// The first page of a reading, the refusal of the second one after a compaction, and both pages at a later moment.
+const PAGES: [(&str, &str); 4] = [
+    (
+        "200 OK",
+        r#"{"header":{"revision":"5"},"kvs":[{"key":"YS8x","value":"","mod_revision":"3"}],"more":true}"#,
+    ),
+    (
+        "400 No",
+        r#"{"code":11,"message":"etcdserver: mvcc: required revision has been compacted"}"#,
+    ),
+    (
+        "200 OK",
+        r#"{"header":{"revision":"7"},"kvs":[{"key":"YS8x","value":"","mod_revision":"6"}],"more":true}"#,
+    ),
+    (
+        "200 OK",
+        r#"{"header":{"revision":"8"},"kvs":[{"key":"YS8y","value":"","mod_revision":"4"}]}"#,
+    ),
+];
+
+#[test]
+fn a_reading_whose_moment_is_compacted_begins_again() {
+    let read = on(&[&answerer(&PAGES)], PATIENCE).read_all(b"a/");
+    let read = read.expect("it begins again");
+    assert_eq!(read.revision, Revision(7));
+    let revisions: Vec<u64> = read.pairs.iter().map(|it| it.revision.0).collect();
+    assert_eq!(revisions, [6, 4]);
+}
+
 /// A member is killed and starts again, and then one whose past is compacted meanwhile.
 #[test]
 fn watches_on_after_a_member_was_away() {

@@ -46,6 +46,12 @@ fn is_true(
             let of = keys.iter().filter(|it| *it >= from && *it < end);
             are_true_keys(keyspace, of, found, span)
         }
+        (_, Told::Sized(Ok(size))) if !(span.0..=span.1).contains(&size.file) => {
+            Err("the store's size is told as it was meanwhile")
+        }
+        (_, Told::Compacted(true)) if keyspace.compacted() < record.begun => {
+            Err("a compaction that is told was made")
+        }
         (_, Told::Kept(kept)) => is_true_of_lease(kept, record),
         (_, Told::Revoked(Ok(()) | Err(LeaseError::Ended(_)))) if record.is_there => {
             Err("a lease that goes on isn't told as ended")
@@ -56,7 +62,7 @@ fn is_true(
 }
 
 /// Checks that a request was done, if nothing was wrong meanwhile. While all members answer and no call is harmed, each
-/// request must be done, unless its lease has ended. Whether room is given back isn't judged.
+/// request must be done, unless its lease has ended.
 fn is_done_if_steady(told: &Told, record: &Record) -> Verdict {
     let is_done = match told {
         Told::Became(became) => matches!(became, Ok(_) | Err(WriteError::LeaseEnded)),
@@ -66,7 +72,8 @@ fn is_done_if_steady(told: &Told, record: &Record) -> Verdict {
         Told::Kept(ended) | Told::Revoked(ended) => {
             matches!(ended, Ok(()) | Err(LeaseError::Ended(_)))
         }
-        Told::Compacted => true,
+        Told::Sized(size) => size.is_ok(),
+        Told::Compacted(is_compacted) => *is_compacted,
     };
     match is_done || !record.is_steady {
         true => Ok(()),

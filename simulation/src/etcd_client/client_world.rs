@@ -287,7 +287,11 @@ impl ClientWorld {
             (12, _) => Asked::ReadKeys(b"k/1".to_vec(), b"l/9".to_vec()),
             (13, Some(lease)) => Asked::Revoke(lease),
             (14..=17, Some(lease)) => Asked::Keep(lease),
-            (18, _) => Asked::Compact,
+            (18, _) => match self.chance.below(3) {
+                0 => Asked::Compact,
+                1 => Asked::CompactHistory,
+                _ => Asked::Size,
+            },
             (13..=19, _) => Asked::Grant,
             (20.., _) => Asked::Grant,
         }

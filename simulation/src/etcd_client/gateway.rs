@@ -43,6 +43,10 @@ impl SimulatedStore {
                 let revision = self.revision();
                 whole(compacted.map(|()| json::nothing(revision)))
             }
+            "/v3/maintenance/status" => GatewayAnswer::Whole(
+                DONE,
+                json::status(self.revision(), self.keyspace.compacted()),
+            ),
             // The other calls ask the member to give room back, or for its alarms. It has no alarm.
             _ => GatewayAnswer::Whole(DONE, json::nothing(self.revision())),
         }

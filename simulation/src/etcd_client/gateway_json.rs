@@ -123,6 +123,12 @@ pub fn nothing(revision: u64) -> Value {
     json!({"header": header(revision)})
 }
 
+/// Returns a member's answer about its data. Each revision takes a byte.
+pub fn status(revision: u64, compacted: u64) -> Value {
+    let used = (revision - compacted).to_string();
+    json!({"header": header(revision), "dbSize": revision.to_string(), "dbSizeInUse": used})
+}
+
 /// Returns a member's answer about a lease. If the lease has no time left, the answer leaves its time out.
 pub fn lease(revision: u64, lease: LeaseId, seconds: u64) -> Value {
     let mut told = json!({"header": header(revision), "ID": lease.0.to_string()});

@@ -1,6 +1,7 @@
 use crate::told::{became, summary};
 use durkenzo_store::{
-    EtcdClient, LeaseError, LeaseId, Outcome, ReadError, Reading, Seen, Transaction, WriteError,
+    EtcdClient, LeaseError, LeaseId, Outcome, ReadError, Reading, Seen, StoreSize, Transaction,
+    WriteError,
 };
 use std::time::Duration;
 
@@ -15,6 +16,8 @@ pub enum Asked {
     Grant,
     Keep(LeaseId),
     Revoke(LeaseId),
+    Size,
+    CompactHistory,
     Compact,
 }
 
@@ -27,8 +30,9 @@ pub enum Told {
     Granted(Result<LeaseId, LeaseError>),
     Kept(Result<(), LeaseError>),
     Revoked(Result<(), LeaseError>),
-    /// The client has tried to give room back. Whether it did isn't judged.
-    Compacted,
+    Sized(Result<StoreSize, ReadError>),
+    /// The client has tried to compact history. Whether it also gave room back isn't judged.
+    Compacted(bool),
 }
 
 /// The length of a lease.
@@ -48,10 +52,9 @@ impl Asked {
             Asked::Grant => Told::Granted(client.grant(LEASE).await),
             Asked::Keep(lease) => Told::Kept(client.keep(*lease).await),
             Asked::Revoke(lease) => Told::Revoked(client.revoke(*lease).await),
-            Asked::Compact => {
-                let _ = client.compact().await;
-                Told::Compacted
-            }
+            Asked::Size => Told::Sized(client.size().await),
+            Asked::CompactHistory => Told::Compacted(client.compact_history().await.is_ok()),
+            Asked::Compact => Told::Compacted(client.compact().await.is_ok()),
         }
     }
 }
@@ -68,6 +71,8 @@ impl Asked {
             Asked::Grant => "for a lease".to_owned(),
             Asked::Keep(lease) => format!("to keep {lease}"),
             Asked::Revoke(lease) => format!("to end {lease}"),
+            Asked::Size => "for its size".to_owned(),
+            Asked::CompactHistory => "to compact history".to_owned(),
             Asked::Compact => "to compact".to_owned(),
         }
     }
@@ -83,8 +88,12 @@ impl Told {
             Told::Granted(Ok(lease)) => format!("has {lease}"),
             Told::Kept(Ok(())) => "kept".to_owned(),
             Told::Revoked(Ok(())) => "ended".to_owned(),
-            Told::Compacted => "compacted".to_owned(),
-            Told::Read(Err(error)) | Told::Keys(Err(error)) => error.to_string(),
+            Told::Sized(Ok(size)) => format!("has {} bytes", size.file),
+            Told::Compacted(true) => "compacted".to_owned(),
+            Told::Compacted(false) => "not known to be compacted".to_owned(),
+            Told::Read(Err(error)) | Told::Keys(Err(error)) | Told::Sized(Err(error)) => {
+                error.to_string()
+            }
             Told::Granted(Err(error)) | Told::Kept(Err(error)) | Told::Revoked(Err(error)) => {
                 error.to_string()
             }

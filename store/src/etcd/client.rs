@@ -3,15 +3,16 @@ use super::environment::Environment;
 use super::gateway::{Gateway, RANGE};
 use super::watch_loop;
 use super::wire::{
-    AlarmRequest, Alarms, Compaction, Granted, KeepAliveResponse, LeaseRequest, Nothing,
-    RangeRequest, RangeResult, TransactionRequest, TransactionResult,
+    AlarmRequest, Alarms, Compaction, Granted, KeepAliveResponse, LeaseRequest, MemberStatus,
+    Nothing, RangeRequest, RangeResult, TransactionRequest, TransactionResult,
 };
 use crate::{
-    CompactError, LeaseError, LeaseId, Outcome, Pair, ReadError, Reading, Revision, Transaction,
-    Watcher, WriteError,
+    CompactError, LeaseError, LeaseId, Outcome, Pair, ReadError, Reading, Revision, StoreSize,
+    Transaction, Watcher, WriteError,
 };
 use serde::de::IgnoredAny;
 use std::fmt;
+use std::future::Future;
 use std::num::NonZeroUsize;
 use std::sync::Arc;
 use std::time::Duration;
@@ -23,6 +24,8 @@ const MOST_OPERATIONS: usize = 128;
 const PAGE: usize = 512;
 /// How many keys are read at a time, without values.
 const KEYS: usize = 8_192;
+/// How often a reading begins again whose moment is compacted before its end.
+const BEGINNINGS: usize = 4;
 
 /// The etcd client of a store. It decides which member is asked, how long, and how often. It has no threads, no sockets
 /// and no clock. So a caller that gives it an [`Environment`] and polls it can simulate it.
@@ -155,7 +158,27 @@ impl EtcdClient {
         ended.await.map(drop).map_err(|it| it.of_lease(lease))
     }
 
-    /// Discards old revisions of deleted and overwritten keys.
+    /// Returns how much room the data takes, as a member says.
+    ///
+    /// # Errors
+    ///
+    /// As [`ReadError`] says.
+    pub async fn size(&self) -> Result<StoreSize, ReadError> {
+        let path = "/v3/maintenance/status";
+        let found = self.gateway.again::<MemberStatus>(path, &Nothing {}).await;
+        found.map(StoreSize::from).map_err(CallError::of_read)
+    }
+
+    /// Compacts history up to the present.
+    ///
+    /// # Errors
+    ///
+    /// As [`CompactError`] says.
+    pub async fn compact_history(&self) -> Result<(), CompactError> {
+        compact_history(&self.gateway, |it| it).await
+    }
+
+    /// Compacts history up to the present, has each member return its room, and ends the alarms of a full quota.
     ///
     /// # Errors
     ///
@@ -186,8 +209,27 @@ async fn is_unmade(gateway: &Gateway, transaction: &Transaction) -> bool {
     })
 }
 
+/// Does a reading of several parts. If the moment of the first part is compacted before the last part is read, begins
+/// again.
+async fn read_whole<F>(read: impl Fn() -> F) -> Result<Reading, ReadError>
+where
+    F: Future<Output = Result<Reading, CallError>>,
+{
+    for _ in 1..BEGINNINGS {
+        match read().await {
+            Err(CallError::Refused(it)) if it.is_of_compacted() => {}
+            found => return found.map_err(CallError::of_read),
+        }
+    }
+    read().await.map_err(CallError::of_read)
+}
+
 /// Reads these keys at one moment: the first transaction's, at which later ones read, too.
 async fn read(gateway: &Gateway, keys: &[Vec<u8>]) -> Result<Reading, ReadError> {
+    read_whole(|| read_parts(gateway, keys)).await
+}
+
+async fn read_parts(gateway: &Gateway, keys: &[Vec<u8>]) -> Result<Reading, CallError> {
     let mut found = Reading::default();
     let none: &[Vec<u8>] = &[];
     for part in keys
@@ -197,8 +239,7 @@ async fn read(gateway: &Gateway, keys: &[Vec<u8>]) -> Result<Reading, ReadError>
         let request = TransactionRequest::reading(part, found.revision);
         let result = gateway
             .again::<TransactionResult>("/v3/kv/txn", &request)
-            .await
-            .map_err(CallError::of_read)?;
+            .await?;
         if found.revision == Revision::NEVER {
             found.revision = result.revision();
         }
@@ -209,14 +250,15 @@ async fn read(gateway: &Gateway, keys: &[Vec<u8>]) -> Result<Reading, ReadError>
 
 /// Reads all keys with this prefix, page by page, at the moment of the first page.
 pub(super) async fn read_all(gateway: &Gateway, prefix: &[u8]) -> Result<Reading, ReadError> {
+    read_whole(|| read_pages(gateway, prefix)).await
+}
+
+async fn read_pages(gateway: &Gateway, prefix: &[u8]) -> Result<Reading, CallError> {
     let mut found = Reading::default();
     let mut from = prefix.to_vec();
     loop {
         let asked = RangeRequest::page(&from, prefix, PAGE, found.revision);
-        let page = gateway
-            .again::<RangeResult>(RANGE, &asked)
-            .await
-            .map_err(CallError::of_read)?;
+        let page = gateway.again::<RangeResult>(RANGE, &asked).await?;
         if found.revision == Revision::NEVER {
             found.revision = page.revision();
         }
@@ -261,18 +303,39 @@ async fn read_keys(
     }
 }
 
-/// Discards old revisions, has each member return its room, and ends the alarms of a full quota.
-async fn compact(gateway: &Gateway) -> Result<(), CompactError> {
-    let moment = read(gateway, &[]).await.map_err(CompactError::from)?;
-    let asked = Compaction::up_to(moment.revision);
+/// Returns the present revision. For that a member asks its leader, unless the user may not read any key: then the
+/// member answers from its own data, which may be out of date.
+async fn present(gateway: &Gateway) -> Result<Revision, CompactError> {
+    let asked = RangeRequest::counting(b"\0");
+    match gateway.again::<RangeResult>(RANGE, &asked).await {
+        Err(CallError::Refused(it)) if it.is_of_user() => Ok(read(gateway, &[]).await?.revision),
+        found => found
+            .map(|it| it.revision())
+            .map_err(CallError::of_compaction),
+    }
+}
+
+/// Compacts history up to the present, in the way that the request is changed to.
+///
+/// The request may be made twice, so that it isn't lost if a member that got it hangs: the second time it is refused,
+/// because that revision is compacted. A member that is away compacts once it is back.
+async fn compact_history(
+    gateway: &Gateway,
+    changed: impl FnOnce(Compaction) -> Compaction,
+) -> Result<(), CompactError> {
+    let asked = changed(Compaction::up_to(present(gateway).await?));
     let found = gateway
-        .once::<IgnoredAny>("/v3/kv/compaction", &asked)
+        .again::<IgnoredAny>("/v3/kv/compaction", &asked)
         .await;
     match found {
-        // Somebody else has compacted it.
-        Err(CallError::Refused(it)) if it.is_of_compacted() => {}
-        found => drop(found.map_err(CallError::of_compaction)?),
+        Err(CallError::Refused(it)) if it.is_of_compacted() => Ok(()),
+        found => found.map(drop).map_err(CallError::of_compaction),
     }
+}
+
+/// Compacts history, has each member return its room, and ends the alarms of a full quota.
+async fn compact(gateway: &Gateway) -> Result<(), CompactError> {
+    compact_history(gateway, Compaction::awaited).await?;
     let given_back = gateway
         .each::<IgnoredAny>("/v3/maintenance/defragment", &Nothing {})
         .await;

@@ -1,7 +1,8 @@
 use super::member_caller::MemberCaller;
 use super::{Access, StartError};
 use crate::{
-    CompactError, Done, LeaseError, LeaseId, ReadError, Reading, Store, Transaction, Watch, Watcher,
+    CompactError, Done, LeaseError, LeaseId, ReadError, Reading, Store, StoreSize, Transaction,
+    Watch, Watcher,
 };
 use std::fmt;
 use std::sync::Arc;
@@ -100,6 +101,22 @@ impl Store for Etcd {
         self.keeper
             .wait_for(async move { client.revoke(lease).await })
             .unwrap_or(Err(LeaseError::Stopped))
+    }
+
+    fn size(&self) -> Result<Option<StoreSize>, ReadError> {
+        let client = self.caller.client();
+        let size = self
+            .caller
+            .wait_for(async move { client.size().await })
+            .unwrap_or(Err(ReadError::Stopped));
+        size.map(Some)
+    }
+
+    fn compact_history(&self) -> Result<(), CompactError> {
+        let client = self.caller.client();
+        self.caller
+            .wait_for(async move { client.compact_history().await })
+            .unwrap_or(Err(CompactError::Stopped))
     }
 
     fn compact(&self) -> Result<(), CompactError> {

@@ -1,5 +1,5 @@
 //! The messages of etcd's gateway: JSON with keys and values in base64, and numbers as texts.
-use crate::{LeaseId, Outcome, Pair, Reading, Revision, Transaction};
+use crate::{LeaseId, Outcome, Pair, Reading, Revision, StoreSize, Transaction};
 use serde::{Deserialize, Deserializer, Serialize, Serializer};
 use std::time::Duration;
 
@@ -411,6 +411,7 @@ impl From<WatchEvent> for crate::KeyChange {
 pub(super) struct Compaction {
     #[serde(with = "number")]
     revision: u64,
+    #[serde(skip_serializing_if = "is_usual")]
     physical: bool,
 }
 
@@ -418,7 +419,38 @@ impl Compaction {
     pub(super) fn up_to(revision: Revision) -> Compaction {
         Compaction {
             revision: revision.0,
+            physical: false,
+        }
+    }
+
+    /// Returns the same request, which a member answers only once it has discarded the values, too.
+    pub(super) fn awaited(self) -> Compaction {
+        Compaction {
             physical: true,
+            ..self
+        }
+    }
+}
+
+/// A member's answer about its own data.
+#[derive(Default, Deserialize)]
+#[serde(default)]
+pub(super) struct MemberStatus {
+    #[serde(rename = "dbSize", deserialize_with = "number::deserialize")]
+    file: u64,
+    #[serde(rename = "dbSizeInUse", deserialize_with = "number::deserialize")]
+    used: u64,
+    /// Members tell it from version 3.6 on.
+    #[serde(rename = "dbSizeQuota", deserialize_with = "number::deserialize")]
+    quota: u64,
+}
+
+impl From<MemberStatus> for StoreSize {
+    fn from(it: MemberStatus) -> StoreSize {
+        StoreSize {
+            file: it.file,
+            used: it.used,
+            quota: Some(it.quota).filter(|it| *it > 0),
         }
     }
 }
