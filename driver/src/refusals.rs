@@ -12,6 +12,30 @@ pub fn advice_on(name: &str, server: u16) -> Option<String> {
 }
 
 // By tools/library-codes, the advice of library/refusals.txt:
+/// The names of the refusals.
+pub const NAMES: [&str; 20] = [
+    "UnknownShard",
+    "UnknownServer",
+    "WrongPhase",
+    "SameServer",
+    "Spent",
+    "Busy",
+    "Leaving",
+    "NoCapacity",
+    "DomainLimit",
+    "NotUp",
+    "NotAsked",
+    "GlobalCap",
+    "ShardCap",
+    "GroupCap",
+    "DomainCap",
+    "NotApproved",
+    "StillServing",
+    "AlreadyUp",
+    "AlreadyFailed",
+    "Raced",
+];
+
 #[rustfmt::skip]
 fn row(name: &str) -> Option<(&'static str, &'static str)> {
     Some(match name {

@@ -21,6 +21,7 @@ mod departure;
 pub mod descriptors;
 pub mod domains;
 pub mod dump;
+mod error_names;
 pub mod guesses;
 pub mod http;
 pub mod io;

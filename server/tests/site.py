@@ -51,6 +51,8 @@ def the_page_shows_how_all_stands(program):
 def metrics_are_in_the_format_of_prometheus(program):
     port = free_port()
     with served(program, "--http-port", port, "--threads", 2) as server, server.client() as client:
+        none = re.findall(r'durkenzo_errors_total{name="(\w+)"} 0\n', got(port, "/metrics"))
+        assert {"ERR", "NOAUTH", "PEERDOWN", "WrongPhase", "StoreFull", "Paused"} <= set(none), none
         client.piped([("SET", "a", 1)] * 100 + [("INCRBY", "a", "x"), ("SM", "ADD", 0)])
         lines = got(port, "/metrics").splitlines()
         samples = [it for it in lines if not it.startswith("#")]

@@ -79,6 +79,7 @@ pub use other_controls::{is_decided, OtherControls};
 pub use progress::{Doing, Progress, Share};
 pub use refusal::Refusal;
 pub use reply_to::ReplyTo;
+pub use refusal_names::error_names;
 pub use store_backend::StoreBackend;
 pub use word_table::is_of_all;
 pub use words::Words;

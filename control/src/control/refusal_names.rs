@@ -1,3 +1,26 @@
+use durkenzo_driver::refusals;
+
+/// Returns the names by which the control refuses and servers answer errors, except those that Redis has. A name may come
+/// twice.
+pub fn error_names() -> impl Iterator<Item = &'static str> {
+    let of_scripts = refusals::NAMES.iter().chain(&OF_SCRIPTS).copied();
+    let of_control = NAMES.iter().map(|it| it.0);
+    let of_servers = ERRORS.iter().flat_map(|it| it.0.split(", "));
+    of_scripts.chain(of_control).chain(of_servers)
+}
+
+/// The names of lines and admissions, which scripts have, too.
+const OF_SCRIPTS: [&str; 8] = [
+    "UnknownWord",
+    "BadLine",
+    "Vacant",
+    "Paused",
+    "NotExecutor",
+    "NotYet",
+    "Admitted",
+    "Unreachable",
+];
+
 /// Each name with which the control refuses and scripts don't: when, and the advice. `./sm help` reads them here.
 pub const NAMES: [(&str, &str, &str); 32] = [
     ("NotThere", "the word exists only if data lies elsewhere", "SM HELP tells where it is"),

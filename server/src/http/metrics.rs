@@ -1,4 +1,5 @@
 use crate::cluster::Cluster;
+use crate::error_names::error_names;
 use crate::metric::{self, Metric, Source};
 use crate::snapshot::Snapshot;
 use crate::stats::LATENCY_BOUNDS;
@@ -86,6 +87,8 @@ fn histogram(name: &str, help: &str, bounds: &[u64], counts: &[u64], micros: u64
 fn by_name(registry: &Registry, cluster: &Cluster) -> prometheus::Result<()> {
     let help = "Errors by which clients were answered";
     let errors = Family::new(registry, "errors_total", help, &["name"])?;
+    // Each name is there from the start, because otherwise the first error of a name would be no increase.
+    error_names().for_each(|it| errors.set(&[it], 0));
     for inlet in cluster.inlets() {
         for (name, count) in inlet.stats().errors() {
             errors.set(&[&name], count);

@@ -242,6 +242,11 @@ impl Replies {
         let told = told.strip_prefix(b"REFUSED ").unwrap_or(told);
         let name = told.split(|it| matches!(it, b' ' | b':')).next();
         let name = String::from_utf8_lossy(name.unwrap_or_default());
+        #[cfg(test)]
+        assert!(
+            crate::error_names::error_names().any(|it| it == name),
+            "{name}"
+        );
         match self.errors.get_mut(&*name) {
             Some(count) => *count += 1,
             None => drop(self.errors.insert(name.into(), 1)),
