@@ -152,7 +152,7 @@ const CLIENTS: &str =
 
 /// Returns whether the process has a lease by its clock. Without a lease it knows nothing of the others, because its
 /// knowledge may be out of date.
-fn is_leased(peers: &Peers) -> bool {
+pub(crate) fn is_leased(peers: &Peers) -> bool {
     peers.member().lease_left().is_some()
 }
 

@@ -122,13 +122,15 @@ def command(program, cluster, server, options=()):
 
 
 class Cluster:
-    """Processes over members of etcd, by the numbers of their servers."""
+    """Processes over members of etcd, by the numbers of their servers. Those with a port in `pages` have a page."""
 
-    def __init__(self, program, etcd, options, lease, env):
+    def __init__(self, program, etcd, options, lease, env, pages=()):
         self.program, self.etcd, self.options, self.lease, self.env = program, etcd, options, lease, env
-        self.processes = {}
+        self.processes, self.pages = {}, dict(enumerate(pages, 1))
 
     def begin(self, server, *options):
+        page = self.pages.get(server)
+        options = (*options, "--http-port", page) if page else options
         self.processes[server] = Process(self.program, self, server, (*self.options, *options))
         return self.processes[server]
 
@@ -159,12 +161,13 @@ class Cluster:
 
 
 @contextlib.contextmanager
-def cluster(program, *options, lease=LASTING, members=1, env=None):
+def cluster(program, *options, lease=LASTING, members=1, env=None, has_pages=False):
     with tempfile.TemporaryDirectory(prefix="sm-cluster-", dir=ROOM) as room:
         etcd = Etcd(members, room)
         try:
             etcd.wait_until_up()
-            found = Cluster(program, etcd, options, lease, env)
+            pages = free_ports(SERVERS) if has_pages else ()
+            found = Cluster(program, etcd, options, lease, env, pages)
             try:
                 for server in range(1, SERVERS + 1):
                     found.begin(server)
@@ -258,8 +261,9 @@ def watched_numbers_are_told(port, client):
     shown = json.loads(DASHBOARD.read_text(encoding="utf-8"))["panels"]
     expressions = [target["expr"] for panel in shown for target in panel["targets"]]
     read = set(re.findall(r"durkenzo_(\w+)", ALERTS.read_text(encoding="utf-8") + " ".join(expressions)))
-    with client, contextlib.suppress(Refused):
-        client.ask("NOSUCH")
+    with client:
+        # It asks all processes, and reaches them.
+        client.ask("DBSIZE")
     told = {it.split("{")[0] for it in numbers(port)}
     assert read <= told, read - told
     if shutil.which("promtool"):
@@ -852,9 +856,12 @@ def errors_of_the_control_are_counted(process, port):
 @again
 def who_is_not_reached_is_told_in_time(program):
     """A machine that answers no connection doesn't make others wait longer than they allow."""
-    with cluster(program, "--wait", 500) as several, contextlib.ExitStack() as stack:
+    with cluster(program, "--wait", 500, has_pages=True) as several, contextlib.ExitStack() as stack:
         silent = next(it for it in several.processes if it != several.leader())
-        client = stack.enter_context(several.client(next(it for it in several.processes if it != silent)))
+        asking = next(it for it in several.processes if it != silent)
+        client = stack.enter_context(several.client(asking))
+        client.ask("DBSIZE")
+        assert reached_by(several, asking) == {it: 1 for it in several.processes if it != asking}
         several.processes.pop(silent).kill(signal.SIGTERM)
         several.begin(silent, "--advertise", full_place(stack))
         eventually(lambda: rows(client)[silent - 1][1] == "up")
@@ -867,9 +874,21 @@ def who_is_not_reached_is_told_in_time(program):
                 client.ask("INCR", "key")
             times.append(time.monotonic() - began)
         within(min(times), SOON)
+        assert reached_by(several, asking)[silent] == 0
         with several.client(silent) as there:
             eventually(lambda: served_answer(there, ("GET", "key")) is None)
         return f"{min(times):.1f} s"
+
+
+def reached_by(several, server):
+    """Returns whether the server's process reaches each other one that it has asked, and checks the times of those."""
+    told = numbers(several.pages[server])
+    named = ((re.fullmatch(r'peer_(\w+){server="(\d+)"}', name), value) for name, value in told.items())
+    peers = {(found[1], int(found[2])): value for found, value in named if found}
+    reached = {it: value for (name, it), value in peers.items() if name == "reached"}
+    times = {it: value for (name, it), value in peers.items() if name == "round_trip_microseconds"}
+    assert set(times) == {it for it, value in reached.items() if value} and all(it > 0 for it in times.values()), peers
+    return reached
 
 
 def full_place(stack):

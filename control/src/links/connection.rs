@@ -52,8 +52,8 @@ impl<H: Host> Dial<H> {
             version,
         } = self;
         let (greeter, hello) = Greeter::new(&inner.terms(), link.server, version);
-        let said = WriteBuffer::of(hello);
-        Connection::new(inner, closer, said, Stage::Greeting(link, greeter))
+        let (said, now) = (WriteBuffer::of(hello), inner.now());
+        Connection::new(inner, closer, said, Stage::Greeting(link, greeter, now))
     }
 
     /// Notes that the process couldn't be reached, and why.
@@ -77,8 +77,8 @@ pub struct Connection<H: Host> {
 }
 
 enum Stage<H: Host> {
-    /// This side greets the process.
-    Greeting(Arc<Link<H>>, Greeter),
+    /// This side greets the process, since this moment.
+    Greeting(Arc<Link<H>>, Greeter, Instant),
     /// This side sends requests.
     Asking(Arc<Link<H>>, OutboundReader<H>, OutboundWriter<H>),
     /// The other side must greet.
@@ -134,11 +134,12 @@ impl<H: Host> Connection<H> {
     /// If the other side has ended the connection or sends something invalid; and the reader's errors.
     pub fn read(&mut self, reader: &mut dyn Read) -> io::Result<()> {
         match &mut self.stage {
-            Stage::Greeting(link, greeter) => {
+            Stage::Greeting(link, greeter, begun) => {
                 let mut room = [0; ROOM];
                 let count = some(reader.read(&mut room)?)?;
                 if let Some(identity) = greeter.receive(&room[..count])? {
-                    link.note_reached(identity, self.closer.clone());
+                    let round_trip = self.inner.now().saturating_duration_since(*begun);
+                    link.note_reached(identity, self.closer.clone(), round_trip);
                     let (link, inner) = (link.clone(), self.inner.clone());
                     let outbound = OutboundReader::new(link.clone(), inner.clone());
                     let asking = OutboundWriter::new(link.clone(), inner);
@@ -245,7 +246,7 @@ impl<H: Host> Connection<H> {
     pub fn end(self, error: &io::Error) {
         let why = error.to_string();
         match self.stage {
-            Stage::Greeting(link, _) => link.note_unreached(error, &self.inner),
+            Stage::Greeting(link, ..) => link.note_unreached(error, &self.inner),
             Stage::Asking(link, outbound, asking) => {
                 asking.end(&why);
                 outbound.end(&why);

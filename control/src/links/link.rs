@@ -1,6 +1,7 @@
 use super::frame::Frame;
 use super::greeting::VERSION;
 use super::handshake::older;
+use super::link_status::LinkStatus;
 use super::links_inner::LinksInner;
 use super::outbound_message::OutboundMessage;
 use super::read_buffer::ReadBuffer;
@@ -20,6 +21,9 @@ const LAST: Duration = Duration::from_millis(500);
 /// How long a process that couldn't be reached isn't tried again, at first and at most.
 const FIRST_PAUSE: Duration = Duration::from_millis(20);
 const LAST_PAUSE: Duration = Duration::from_millis(500);
+/// How long after a connection failed or broke another one is made although nothing waits to be sent. So whoever watches
+/// sees within that time that the process is reached again.
+const LOOK: Duration = Duration::from_secs(5);
 
 /// The link to the process of one server: its requests, and its connection. The connection is made when it is needed.
 /// It is made again after it broke, or after another process got the server.
@@ -44,8 +48,12 @@ pub(super) struct LinkState<H: Host> {
     process: u64,
     /// The version of that process' table of commands.
     table: u16,
+    /// How long the process took to greet.
+    round_trip: Duration,
     /// Why the server couldn't be reached at the last attempt, if it couldn't.
     unreached: Option<String>,
+    /// When a connection is made again that failed or broke, whether something waits to be sent or not.
+    look: Option<Instant>,
     /// Until when it isn't tried again, how long the pause after the next failed attempt is, and the version of the
     /// next attempt.
     paused_until: Option<Instant>,
@@ -87,7 +95,9 @@ impl<H: Host> Default for LinkState<H> {
             closer: None,
             process: 0,
             table: 0,
+            round_trip: Duration::ZERO,
             unreached: None,
+            look: None,
             paused_until: None,
             pause: FIRST_PAUSE,
             version: VERSION,
@@ -105,9 +115,20 @@ impl<H: Host> LinkState<H> {
         let paused_until = self.paused_until.filter(|it| *it > now);
         match (self.is_over, paused_until) {
             (true, _) => LinkNeed::End,
-            _ if self.queue.is_empty() || self.is_begun => LinkNeed::Nothing(None),
+            _ if self.is_begun => LinkNeed::Nothing(None),
+            _ if self.queue.is_empty() => self.need_to_look(now),
             (false, None) => LinkNeed::Connection,
             (false, until) => LinkNeed::Nothing(until),
+        }
+    }
+
+    /// Returns the need of a link that has nothing to send. A server that isn't there isn't looked for.
+    fn need_to_look(&self, now: Instant) -> LinkNeed {
+        match self.look {
+            Some(at) if at > now => LinkNeed::Nothing(Some(at)),
+            Some(_) if self.gone.is_none() => LinkNeed::Connection,
+            Some(_) => LinkNeed::Nothing(Some(now + LOOK)),
+            None => LinkNeed::Nothing(None),
         }
     }
 
@@ -179,9 +200,14 @@ impl<H: Host> Link<H> {
         !self.state().queue.is_empty()
     }
 
-    /// Returns whether its process can be reached.
-    pub(super) fn is_connected(&self) -> bool {
-        self.state().closer.is_some()
+    /// Returns whether its process is reached, and how long the process took to greet.
+    pub(super) fn status(&self) -> LinkStatus {
+        let state = self.state();
+        let is_reached = state.closer.is_some();
+        LinkStatus {
+            is_reached,
+            round_trip: is_reached.then_some(state.round_trip),
+        }
     }
 
     /// Sends a message to the server's process.
@@ -261,13 +287,20 @@ impl<H: Host> Link<H> {
         state.version
     }
 
-    /// Notes that the process was reached, and its identity. This closer ends the connection.
-    pub(super) fn note_reached(&self, identity: Identity, closer: Arc<dyn Closer>) {
+    /// Notes that the process was reached, its identity, and how long it took to greet. This closer ends the connection.
+    pub(super) fn note_reached(
+        &self,
+        identity: Identity,
+        closer: Arc<dyn Closer>,
+        round_trip: Duration,
+    ) {
         let mut state = self.state();
         state.closer = Some(closer);
         state.process = identity.process;
         state.table = identity.table;
+        state.round_trip = round_trip;
         state.unreached = None;
+        state.look = None;
         state.is_broken = false;
         state.pause = FIRST_PAUSE;
         state.version = VERSION;
@@ -287,6 +320,7 @@ impl<H: Host> Link<H> {
         tracing::debug!(server = self.server, why, "a process isn't reached");
         state.version = VERSION;
         state.unreached = Some(why.clone());
+        state.look = Some(now + LOOK);
         state.paused_until = Some(now + state.pause);
         state.pause = (2 * state.pause).min(LAST_PAUSE);
         drop(state);
@@ -347,6 +381,7 @@ impl<H: Host> Link<H> {
         let mut state = self.state();
         state.is_broken = true;
         state.closer = None;
+        state.look = Some(inner.now() + LOOK);
         let asked = std::mem::take(&mut state.asked);
         drop(state);
         self.woken.notify_all();
@@ -560,6 +595,46 @@ mod tests {
         }
         link.stop();
         assert_eq!(need(&link, pause), LinkNeed::End);
+    }
+
+    #[test]
+    fn a_connection_that_failed_or_broke_is_made_again_while_the_server_is_there() {
+        let time = Arc::default();
+        let (link, inner) = (idle(), links_of(1, &time).inner);
+        let need = |link: &Link<TestHost>| link.state().need(inner.now());
+        let pass = |it: Duration| {
+            time.fetch_add(it.as_millis() as u64, Ordering::Relaxed);
+        };
+        assert_eq!(link.status(), LinkStatus::default());
+        link.begin();
+        link.note_unreached(&io::Error::other("nobody listens"), &inner);
+        assert_eq!(need(&link), LinkNeed::Nothing(Some(inner.now() + LOOK)));
+        pass(LOOK);
+        link.tick(inner.now(), None);
+        assert_eq!(need(&link), LinkNeed::Nothing(Some(inner.now() + LOOK)));
+        link.tick(inner.now(), Some(7));
+        assert_eq!(need(&link), LinkNeed::Connection);
+        link.begin();
+        let (identity, closer) = (identity_of(7), Arc::new(TestCloser::default()));
+        link.note_reached(identity, closer, Duration::from_millis(3));
+        assert_eq!(need(&link), LinkNeed::Nothing(None));
+        let status = link.status();
+        assert!(status.is_reached && status.round_trip == Some(Duration::from_millis(3)));
+        link.lose_all("it is gone", &inner);
+        link.end_connection();
+        assert!(!link.status().is_reached);
+        pass(LOOK);
+        assert_eq!(need(&link), LinkNeed::Connection);
+    }
+
+    /// Returns the identity of the process with this number.
+    fn identity_of(process: u64) -> Identity {
+        Identity {
+            server: 2,
+            settings: 0,
+            process,
+            table: 1,
+        }
     }
 
     #[test]

@@ -41,6 +41,7 @@ mod inbound;
 mod keep_alive;
 mod link;
 mod link_counts;
+mod link_status;
 mod links_inner;
 mod not_accepted;
 mod outbound;
@@ -80,6 +81,7 @@ pub use host::Host;
 pub use identity::{checksum, Identity, FIRST_TABLE};
 pub use keep_alive::{KeepAlive, KEEP_ALIVE};
 pub use link_counts::LinkCounts;
+pub use link_status::LinkStatus;
 pub use not_accepted::NotAccepted;
 pub use peer_session::PeerSession;
 pub use pending_handshakes::{PendingHandshake, PendingHandshakes};
@@ -101,6 +103,7 @@ use forwarded_batch::ForwardedBatch;
 use link::LinkNeed;
 use links_inner::{locked, BeginLink, LinksInner};
 use outbound_message::OutboundMessage;
+use std::collections::BTreeMap;
 use std::fmt;
 use std::io;
 use std::net::TcpListener;
@@ -194,8 +197,15 @@ impl<H: Host> Links<H> {
     /// Returns to how many processes this one is connected, and how many are connected to it.
     pub fn connections(&self) -> (usize, usize) {
         let links = locked(&self.inner.links);
-        let reached = links.values().filter(|it| it.is_connected()).count();
-        (reached, self.inner.serving.load(Ordering::Relaxed))
+        let reached = links.values().filter(|it| it.status().is_reached);
+        (reached.count(), self.inner.serving.load(Ordering::Relaxed))
+    }
+
+    /// Returns the status of the link to each server that is there, if this process has ever sent it anything.
+    pub fn statuses(&self) -> BTreeMap<u16, LinkStatus> {
+        let (links, members) = (locked(&self.inner.links), self.member().members());
+        let there = links.iter().filter(|it| members.contains_key(it.0));
+        there.map(|(server, it)| (*server, it.status())).collect()
     }
 
     /// Begins to answer incoming connections of processes, with this host, until the links are closed. The cluster has

@@ -1,6 +1,6 @@
 use crate::cluster::Cluster;
 use crate::error_names::error_names;
-use crate::metric::{self, Metric, Source};
+use crate::metric::{self, is_leased, Metric, Source};
 use crate::snapshot::Snapshot;
 use crate::stats::LATENCY_BOUNDS;
 use durkenzo_store::{StoreCounts, TRANSACTION_BOUNDS};
@@ -19,6 +19,7 @@ pub(super) fn text(cluster: &Cluster, snapshot: &Snapshot) -> prometheus::Result
     }
     servers(&registry, cluster, snapshot)?;
     by_name(&registry, cluster)?;
+    peers(&registry, cluster)?;
     shards(&registry, snapshot)?;
     let mut text = Vec::new();
     TextEncoder::new().encode(&registry.gather(), &mut text)?;
@@ -104,6 +105,26 @@ fn by_name(registry: &Registry, cluster: &Cluster) -> prometheus::Result<()> {
         let sent = Family::new(registry, "transactions_total", help, &["outcome"])?;
         for (outcome, count) in counts.outcomes() {
             sent.set(&[outcome], count);
+        }
+    }
+    Ok(())
+}
+
+/// Adds the servers that are there and that this process has asked. Without a lease it doesn't know who is there.
+fn peers(registry: &Registry, cluster: &Cluster) -> prometheus::Result<()> {
+    let Some(peers) = cluster.storage.peers().filter(|it| is_leased(it)) else {
+        return Ok(());
+    };
+    let family = |name, help| Family::new(registry, name, help, &["server"]);
+    let help = "Whether this process reaches the server, which has its lease";
+    let reached = family("peer_reached", help)?;
+    let help = "How long the server's process took to greet this one when it was last reached";
+    let round_trip = family("peer_round_trip_microseconds", help)?;
+    for (server, status) in peers.statuses() {
+        let server = server.to_string();
+        reached.set(&[&server], u64::from(status.is_reached));
+        if let Some(time) = status.round_trip {
+            round_trip.set(&[&server], time.as_micros() as u64);
         }
     }
     Ok(())

@@ -4,8 +4,9 @@ use super::peer_command::PeerCommand;
 use super::step_destination::StepDestination;
 use crate::cluster::Cluster;
 use crate::control::{Again, Asked};
-use durkenzo_control::links::{checksum, LinkCounts, Links, NotAccepted, Terms};
+use durkenzo_control::links::{checksum, LinkCounts, LinkStatus, Links, NotAccepted, Terms};
 use durkenzo_driver::{Durable, Elsewhere, HandOver, Member, WorkStep};
+use std::collections::BTreeMap;
 use std::fmt;
 use std::io;
 use std::net::TcpListener;
@@ -68,6 +69,11 @@ impl Peers {
     /// Returns to how many processes this one is connected, and how many are connected to it.
     pub fn connections(&self) -> (usize, usize) {
         self.links.connections()
+    }
+
+    /// Returns whether this process reaches each server that is there and that it has asked.
+    pub fn statuses(&self) -> BTreeMap<u16, LinkStatus> {
+        self.links.statuses()
     }
 
     /// Begins to answer the processes that connect, with these shards and this control, until it is stopped.

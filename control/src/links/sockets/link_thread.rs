@@ -6,6 +6,7 @@ use super::channel::{connect, Channel};
 use std::io::{self, Read, Write};
 use std::sync::{Arc, MutexGuard, PoisonError};
 use std::thread::{self, JoinHandle};
+use std::time::Duration;
 
 /// The thread of a link: it waits for work, and moves the bytes of the connection.
 struct LinkThread<H: Host> {
@@ -64,24 +65,27 @@ impl<H: Host> LinkThread<H> {
         }
     }
 
-    /// Connects to the process, and returns its identity.
-    fn reach(&self, version: u8) -> io::Result<(Channel, Identity)> {
+    /// Connects to the process, and returns its identity, and how long it took to greet.
+    fn reach(&self, version: u8) -> io::Result<(Channel, Identity, Duration)> {
         let (server, terms) = (self.link.server, &self.inner.terms());
         let address = self.inner.address_of(server)?;
         let mut channel = connect(terms, &address)?;
+        let begun = self.inner.now();
         let identity = channel.greet(terms, server, version)?;
+        let round_trip = self.inner.now().saturating_duration_since(begun);
         let Identity { process, table, .. } = identity;
         tracing::info!(server, process, table, address, "reached a process");
-        Ok((channel, identity))
+        Ok((channel, identity, round_trip))
     }
 
     /// Starts a reader of the process's answers; without one, the process isn't asked anything. Returns the writer of
     /// requests, and the reader's thread.
     fn begin_to_serve(
         &self,
-        (channel, identity): (Channel, Identity),
+        (channel, identity, round_trip): (Channel, Identity, Duration),
     ) -> io::Result<(Box<dyn Write + Send>, JoinHandle<()>)> {
-        self.link.note_reached(identity, channel.closer());
+        self.link
+            .note_reached(identity, channel.closer(), round_trip);
         let Channel { reader, writer, .. } = channel;
         self.begin_to_read(reader).map(|it| (writer, it))
     }
