@@ -157,7 +157,7 @@ pub(crate) fn is_leased(peers: &Peers) -> bool {
 }
 
 /// The numbers that a process has once.
-static OF_PROCESSES: [Metric; 23] = [
+static OF_PROCESSES: [Metric; 26] = [
     Metric::gauge(
         "uptime_seconds",
         "Seconds since the start",
@@ -211,6 +211,24 @@ static OF_PROCESSES: [Metric; 23] = [
         "Bytes of keys and values that transactions wrote",
         Info::Own(Section::Persistence),
         Source::Sent(StoreCounts::bytes_written),
+    ),
+    Metric::gauge(
+        "store_file_bytes",
+        "Bytes of etcd's file, as this process read them last while it led, or 0",
+        Info::Own(Section::Persistence),
+        Source::Sent(|it| it.size().file),
+    ),
+    Metric::gauge(
+        "store_used_bytes",
+        "Bytes of that file that hold something, old revisions among them",
+        Info::Own(Section::Persistence),
+        Source::Sent(|it| it.size().used),
+    ),
+    Metric::gauge(
+        "store_quota_bytes",
+        "The most bytes of that file, or 0 if etcd doesn't tell",
+        Info::Own(Section::Persistence),
+        Source::Sent(|it| it.size().quota.unwrap_or(0)),
     ),
     Metric::gauge(
         "shards_unread",

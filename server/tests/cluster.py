@@ -42,6 +42,8 @@ RECOVERY = 2
 # The time that other work on the machine may take besides.
 SLOW = 6
 PATIENCE = served.SECONDS
+# A small quota of etcd, the length of texts that fill it, and how many bytes of them are written a second at most.
+QUOTA, LONG, RATE = 60_000_000, 60_000, 1_200_000
 # How soon a client is told that a process can't be reached. A connection attempt in vain takes longer.
 SOON = 1.8
 # The folder for etcd's data, in memory if there is room, so that tests don't wait for a disk. A member takes 64 MB at
@@ -54,11 +56,12 @@ ROOM = MEMORY if HAS_MEMORY else None
 class Etcd:
     """Members of etcd, in a folder of their own."""
 
-    def __init__(self, count, room):
+    def __init__(self, count, room, quota):
         ports = free_ports(2 * count)
         self.clients, peers = ports[:count], ports[count:]
         named = ",".join(f"m{it}=http://127.0.0.1:{port}" for it, port in enumerate(peers))
         self.commands = [member(it, room, self.clients[it], peers[it], named) for it in range(count)]
+        self.commands = [[*it, "--quota-backend-bytes", str(quota)] for it in self.commands]
         self.processes = [self.begin(it) for it in range(count)]
         self.urls = ",".join(f"http://127.0.0.1:{it}" for it in self.clients)
 
@@ -161,9 +164,9 @@ class Cluster:
 
 
 @contextlib.contextmanager
-def cluster(program, *options, lease=LASTING, members=1, env=None, has_pages=False):
+def cluster(program, *options, lease=LASTING, members=1, env=None, quota=0, has_pages=False):
     with tempfile.TemporaryDirectory(prefix="sm-cluster-", dir=ROOM) as room:
-        etcd = Etcd(members, room)
+        etcd = Etcd(members, room, quota)
         try:
             etcd.wait_until_up()
             pages = free_ports(SERVERS) if has_pages else ()
@@ -349,6 +352,28 @@ def moves_in_log(several):
     lines = [it["fields"] for process in several.processes.values() for it in logged(process)]
     moved = [it for it in lines if it["message"] == "the shard has moved"]
     return [(it["shard"], it["from"], it["to"]) for it in moved]
+
+
+def etcd_lasts_longer_than_its_quota(program):
+    """More is written than fits in etcd with all old revisions. The leader has it discard them meanwhile, so nothing is
+    refused."""
+    with cluster(program, "--log-batches", 10, quota=QUOTA, has_pages=True) as several:
+        written, began = 0, time.monotonic()
+        with several.any() as client:
+            while written < 1.4 * QUOTA:
+                client.ask("SET", written // LONG % 20, os.urandom(LONG // 2).hex())
+                written += LONG
+                time.sleep(max(0, began + written / RATE - time.monotonic()))
+            assert client.ask("DBSIZE") == 20
+        told = {server: numbers(page) for server, page in several.pages.items()}
+        counts = {server: it['compactions_total{outcome="made"}'] for server, it in told.items()}
+        leader = several.leader()
+        assert counts.pop(leader) > 1 and not any(counts.values()), (leader, counts)
+        sizes = [told[leader][it] for it in ("store_used_bytes", "store_file_bytes")]
+        assert 0 < sizes[0] <= sizes[1] < QUOTA, sizes
+        lines = [it for it in logged(several.processes[leader]) if "history is compacted" in it["fields"]["message"]]
+        assert lines and lines[0]["fields"]["used"] > 0, lines
+        return f"{written >> 20} MB, {len(lines)} compactions, {int(sizes[1]) >> 20} MB in the end"
 
 
 def keys_in(etcd):
@@ -1112,6 +1137,7 @@ TESTS = [
     any_process_scans_all_keys,
     any_process_lists_and_flushes_all_keys,
     clusters_share_an_etcd,
+    etcd_lasts_longer_than_its_quota,
     a_pipeline_at_another_process_keeps_its_order,
     what_many_write_at_once_fits_etcd,
     reads_by_lease_make_no_transaction,

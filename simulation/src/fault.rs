@@ -31,7 +31,7 @@ pub enum Fault {
     WriteFull,
     /// A transaction is larger than the store accepts.
     WriteTooLarge,
-    /// A transaction isn't answered although its sender waits for it.
+    /// A transaction or a compaction isn't answered although its sender waits for it.
     CallLost,
     /// A read isn't answered.
     ReadLost,

@@ -5,14 +5,16 @@ use crate::timeline::Column;
 use crate::told;
 use durkenzo_store::Outcome;
 use durkenzo_store::{
-    CompactError, Done, LeaseError, LeaseId, ReadError, Reading, Store, Transaction, Watch,
-    Watcher, WriteError,
+    CompactError, Done, LeaseError, LeaseId, ReadError, Reading, Store, StoreSize, Transaction,
+    Watch, Watcher, WriteError,
 };
 use std::sync::MutexGuard;
 use std::time::Duration;
 
 /// How many bytes of room are usually left.
 const ROOM: u64 = 1 << 30;
+/// How much room each revision takes that isn't compacted, so that a leader compacts history within a schedule.
+const REVISION: u64 = 4 << 20;
 
 /// A process's way to the store. [`Store::make`] returns the outcome at once, but a transaction of another sender may
 /// be made before. A transaction that was given to [`Store::submit`] is made when the schedule says so.
@@ -138,6 +140,26 @@ impl Store for Line {
         let column = store.column_of(self.route);
         let is_scarce = store.fails(Fault::RoomScarce, 10, column);
         Some(if is_scarce { 0 } else { ROOM })
+    }
+
+    fn size(&self) -> Result<Option<StoreSize>, ReadError> {
+        let store = self.reached()?;
+        let used = REVISION * (store.revision() - store.keyspace.compacted());
+        let quota = None;
+        let file = used;
+        Ok(Some(StoreSize { file, used, quota }))
+    }
+
+    fn compact_history(&self) -> Result<(), CompactError> {
+        let revision = self.reached()?.revision();
+        // A transaction of another sender may be made between the two calls.
+        let mut store = self.reached()?;
+        let column = store.column_of(self.route);
+        store.compact_by(revision, column);
+        match store.fails(Fault::CallLost, 20, column) {
+            true => Err(CompactError::Unavailable("by chance".to_owned())),
+            false => Ok(()),
+        }
     }
 
     fn compact(&self) -> Result<(), CompactError> {

@@ -56,6 +56,8 @@ pub struct SimulatedStore {
     leases: i64,
     /// How many transactions weren't made because a compare didn't hold.
     pub lost: u64,
+    /// How often a leader has compacted history.
+    pub compactions: u64,
 }
 
 impl SimulatedStore {
@@ -88,6 +90,7 @@ impl SimulatedStore {
             watches: Watches::default(),
             leases: 0,
             lost: 0,
+            compactions: 0,
         }
     }
 
@@ -199,6 +202,15 @@ impl SimulatedStore {
                 WriteError::Unknown(why)
             }
         }
+    }
+
+    /// Compacts history up to this revision, as the process of this column asks.
+    pub fn compact_by(&mut self, revision: u64, column: Column) {
+        self.compactions += 1;
+        self.timeline
+            .note(column, || format!("compacts history up to {revision}"));
+        // If another compaction went further, this one fails and changes nothing.
+        let _ = self.keyspace.compact(revision);
     }
 
     /// Notes that this transaction made the present revision.

@@ -19,6 +19,8 @@ pub struct Tally {
     pub starts: u64,
     pub renewed: u64,
     pub elections: u64,
+    /// How often a leader compacted history.
+    pub compactions: u64,
     pub changes: u64,
     pub bases: u64,
     pub deleted: u64,
@@ -66,6 +68,7 @@ impl Tally {
         self.starts += more.starts;
         self.renewed += more.renewed;
         self.elections += more.elections;
+        self.compactions += more.compactions;
         self.changes += more.changes;
         self.bases += more.bases;
         self.deleted += more.deleted;
@@ -132,6 +135,7 @@ impl fmt::Display for Tally {
             ("starts", self.starts),
             ("renewed", self.renewed),
             ("elections", self.elections),
+            ("compactions by leaders", self.compactions),
             ("changes", self.changes),
             ("bases", self.bases),
             ("deleted", self.deleted),

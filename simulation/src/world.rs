@@ -305,6 +305,7 @@ impl World {
         let mut told = std::mem::take(&mut *self.told.lock().expect("no panic"));
         let store = locked(&self.store);
         self.tally.lost = store.lost;
+        self.tally.compactions = store.compactions;
         self.tally.faults = FaultCounts::of(&self.faults.struck());
         for (_, transaction) in &store.made {
             let written = Written::of(transaction);

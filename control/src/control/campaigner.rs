@@ -107,8 +107,9 @@ impl Campaigner {
         tracing::info!("this process leads");
         let backend = Box::new(StoreBackend::shared(control));
         let control = Controller::new(self.host.clone(), backend, self.clock.clone());
-        let (peers, is_back) = (self.peers.clone(), self.is_back.clone());
-        Some(Leader::new(control, peers, self.assigns, is_back))
+        let around = (self.peers.clone(), self.durable.store().clone());
+        let is_back = self.is_back.clone();
+        Some(Leader::new(control, around, self.assigns, is_back))
     }
 
     /// Takes the command, and goes on leading, unless another process leads.

@@ -1,10 +1,12 @@
 //! The work of the leader among several processes, beside answering. It is the failure detector: a server whose key has
 //! gone with its lease has failed, and its shards go to others.
+use super::compactor::Compactor;
 use super::controller::{Controller, TURN};
 use super::held_command::{HeldCommand, Waiting};
 use super::task::Task;
 use super::{OtherControls, Refusal};
 use durkenzo_driver::{ControlCommand, Next, ServerState};
+use durkenzo_store::Store;
 use std::collections::{BTreeMap, BTreeSet};
 use std::sync::atomic::{AtomicBool, Ordering};
 use std::sync::Arc;
@@ -21,21 +23,23 @@ pub const FIRST_WAIT: Duration = Duration::from_secs(10);
 pub(super) struct Leader {
     control: Controller,
     watch: LeaderWatch,
+    compactor: Compactor,
     peers: Arc<dyn OtherControls>,
 }
 
 impl Leader {
-    /// Makes this control lead several processes. If `assigns` is set, vacant shards get owners once all servers are
+    /// Makes this control lead several processes over their store. If `assigns` is set, vacant shards get owners once all servers are
     /// there, or have been awaited long enough. If this process's server is back from a stop, it is brought up then.
     pub(super) fn new(
         mut control: Controller,
-        peers: Arc<dyn OtherControls>,
+        (peers, store): (Arc<dyn OtherControls>, Arc<dyn Store>),
         assigns: bool,
         is_back: Arc<AtomicBool>,
     ) -> Leader {
         control.peers = Some(peers.clone());
         Leader {
             watch: LeaderWatch::new(assigns, is_back, control.now()),
+            compactor: Compactor::new(store, control.now()),
             control,
             peers,
         }
@@ -63,6 +67,8 @@ impl Leader {
             control.leave();
             return false;
         }
+        let is_busy = !(control.tasks.is_empty() && control.paused.is_empty());
+        self.compactor.go_on(control.now(), is_busy);
         true
     }
 

@@ -37,6 +37,7 @@ mod asked_command;
 mod backend;
 mod campaigner;
 mod change_log;
+mod compactor;
 mod control_host;
 #[allow(clippy::disallowed_methods)]
 mod control_thread;
@@ -78,8 +79,8 @@ pub use leader::FIRST_WAIT;
 pub use other_controls::{is_decided, OtherControls};
 pub use progress::{Doing, Progress, Share};
 pub use refusal::Refusal;
-pub use reply_to::ReplyTo;
 pub use refusal_names::error_names;
+pub use reply_to::ReplyTo;
 pub use store_backend::StoreBackend;
 pub use word_table::is_of_all;
 pub use words::Words;

@@ -106,6 +106,11 @@ fn by_name(registry: &Registry, cluster: &Cluster) -> prometheus::Result<()> {
         for (outcome, count) in counts.outcomes() {
             sent.set(&[outcome], count);
         }
+        let help = "Compactions of the store's history that this process asked for";
+        let compactions = Family::new(registry, "compactions_total", help, &["outcome"])?;
+        for (outcome, count) in counts.compactions() {
+            compactions.set(&[outcome], count);
+        }
     }
     Ok(())
 }
