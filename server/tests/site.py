@@ -310,11 +310,34 @@ def wrong_options_are_told_before_a_build(program):
             assert ran.returncode == 2 and words[0].partition("=")[0] in ran.stderr and wanted in ran.stderr, ran
     told = subprocess.run([program, "--help"], capture_output=True, text=True, check=True).stdout
     named = set(re.findall(r"(?m)^ +(?:-\w, )?(--[\w-]+)", told))
+    known = loaded_tool().known_options()
+    assert named == known - {"--proved"}, named ^ known
+
+
+def loaded_tool():
+    """Returns ./sm serve as a module of its own."""
     loader = importlib.machinery.SourceFileLoader("serve", str(TOOL))
     sys.path.insert(0, str(TOOL.parent))
     serve = importlib.util.module_from_spec(importlib.util.spec_from_loader("serve", loader))
     loader.exec_module(serve)
-    assert named == serve.known_options() - {"--proved"}, named ^ serve.known_options()
+    return serve
+
+
+def the_last_two_built_servers_are_kept(_program):
+    """The test builds nothing: each library stands for its own checksum."""
+    serve = loaded_tool()
+    with tempfile.TemporaryDirectory() as folder:
+        serve.KEPT = pathlib.Path(folder)
+        serve.checksum = lambda library: library
+
+        def build(program, _library):
+            program.parent.mkdir(parents=True)
+            program.touch()
+
+        serve.build = build
+        for library, kept in [("a", "a"), ("b", "ab"), ("a", "ab"), ("c", "ac"), ("c", "ac"), ("d", "cd"), ("a", "ad")]:
+            assert serve.built(lambda: library).exists()
+            assert {it.name for it in (serve.KEPT / "kept").iterdir()} == set(kept), (library, kept)
 
 
 def what_is_not_accepted_is_told(program):
@@ -358,6 +381,7 @@ TESTS = [
     who_asks_the_control_is_in_the_log,
     a_log_that_nobody_reads_keeps_nobody_waiting,
     wrong_options_are_told_before_a_build,
+    the_last_two_built_servers_are_kept,
     what_is_not_accepted_is_told,
 ]
 
