@@ -1,8 +1,9 @@
 """Runs commands that may take only some time: a command that takes longer is ended, with all processes that it
-began."""
+began. Also has commands end with the process that started them."""
 import collections
 import contextlib
 import os
+import shutil
 import signal
 import subprocess
 
@@ -35,6 +36,13 @@ def end(root, how):
     for pid in below(root):
         with contextlib.suppress(ProcessLookupError):
             os.kill(pid, how)
+
+
+def bound(command):
+    """Returns the command so that Linux sends it SIGTERM once the thread that starts it has ended, also if somebody
+    kills the process of that thread. If setpriv isn't installed, returns the command as it is."""
+    setpriv = shutil.which("setpriv")
+    return [setpriv, "--pdeathsig", "TERM", *command] if setpriv else command
 
 
 def run(command, seconds, *, input=None, **how):

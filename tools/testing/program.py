@@ -38,7 +38,7 @@ def tool(name, *arguments):
     command = [str(sources.TOP / "tools" / name), *map(str, arguments)]
     how = {"stdin": subprocess.DEVNULL, "stderr": subprocess.STDOUT, "cwd": sources.TOP}
     try:
-        ran = limited.run(command, TOOL_SECONDS, text=True, errors="replace", **how)
+        ran = limited.run(limited.bound(command), TOOL_SECONDS, text=True, errors="replace", **how)
         reason = None if ran.returncode == 0 else f"exit status {ran.returncode}\n{ran.stdout[-3000:]}"
     except subprocess.TimeoutExpired as late:
         reason = f"it had not ended after {TOOL_SECONDS} seconds\n{(late.output or '')[-3000:]}"

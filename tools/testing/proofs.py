@@ -84,7 +84,7 @@ class Proofs:
 
     def prove(self, tree):
         how = {"stdout": subprocess.PIPE, "stderr": subprocess.STDOUT, "text": True, "errors": "replace"}
-        self.process = subprocess.Popen(self.words, cwd=tree, **how)
+        self.process = subprocess.Popen(limited.bound(self.words), cwd=tree, **how)
         for line in self.process.stdout:
             for found in self.read(line.rstrip("\n")):
                 self.has_failed = self.has_failed or found.reason is not None

@@ -8,6 +8,7 @@ from testing import (
     benches,
     cluster,
     front,
+    killed,
     layout,
     library,
     packed,
@@ -75,7 +76,8 @@ def below(crates):
 def pages():
     """The layout of all sources, the docs' statements about them, and the tools that fill their tables."""
     docs = Part("docs", lambda _room: map(tool, DOCS))
-    return [Part("layout", layout.laid_out), docs, Part("benches", benches.passed)]
+    ended = Part("a run that is killed", killed.passed)
+    return [Part("layout", layout.laid_out), docs, Part("benches", benches.passed), ended]
 
 
 def built(name, path):

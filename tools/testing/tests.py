@@ -3,6 +3,7 @@ import re
 import subprocess
 import sys
 
+import limited
 import sources
 from testing.part import Verdict, passed
 
@@ -39,7 +40,7 @@ def work(names):
     def run(_room):
         command = [sys.executable, str(sources.TOP / "tools/run-tests"), *names]
         how = {"stdin": subprocess.DEVNULL, "stdout": subprocess.PIPE, "stderr": subprocess.STDOUT, "text": True}
-        with subprocess.Popen(command, errors="replace", **how) as ran:
+        with subprocess.Popen(limited.bound(command), errors="replace", **how) as ran:
             lines = [it.rstrip("\n") for it in ran.stdout]
         found = list(verdicts_of(lines))
         yield from found

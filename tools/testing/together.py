@@ -14,6 +14,7 @@ import subprocess
 import tempfile
 import threading
 
+import limited
 import must_fail
 import sources
 from testing import prover
@@ -112,7 +113,7 @@ class Trial:
                     shutil.copytree(sources.CRATES / self.crate / part, f"{room}/{part}")
             for file, text in must_fail.edited(edits).items():
                 pathlib.Path(room, file).write_text(text, encoding="utf-8")
-            command = [prover.RATTLE, "check", *prover.words(self.crate, self.tree), *words]
+            command = limited.bound([prover.RATTLE, "check", *prover.words(self.crate, self.tree), *words])
             how = {"stdin": subprocess.DEVNULL, "stdout": subprocess.PIPE, "stderr": subprocess.STDOUT}
             with self.turn:
                 if self.is_stopped:
