@@ -7,7 +7,7 @@
 // The types of etcd's answers, for the modules of the store that are compiled here again.
 use durkenzo_store::{
     CompactError, KeyChange, LeaseError, LeaseId, Outcome, Pair, ReadError, Reading, Revision,
-    Transaction, WriteError,
+    StoreSize, Transaction, WriteError,
 };
 
 mod chance;

@@ -1,5 +1,5 @@
 use crate::target::{holds, Target};
-use durkenzo_store::{KeyChange, LeaseId, Outcome, Pair, Revision};
+use durkenzo_store::{KeyChange, LeaseId, Outcome, Pair, Revision, StoreSize};
 use serde_json::{json, Value};
 
 #[path = "../../../store/src/etcd/call_error.rs"]
@@ -11,7 +11,8 @@ mod wire;
 
 use call_error::{CallError, GrpcStatus};
 use wire::{
-    Granted, KeepAliveResponse, RangeResult, Streamed, TransactionResult, WatchRequest, WatchResult,
+    Granted, KeepAliveResponse, MemberStatus, RangeResult, Streamed, TransactionResult,
+    WatchRequest, WatchResult,
 };
 
 /// The answers of etcd's gateway.
@@ -47,6 +48,7 @@ impl Target for EtcdAnswers {
         // These are only numbers.
         let _ = serde_json::from_slice::<Granted>(input).map(|it| it.id);
         let _ = serde_json::from_slice::<Streamed<KeepAliveResponse>>(input);
+        let _ = serde_json::from_slice::<MemberStatus>(input).map(StoreSize::from);
         Ok(())
     }
 
@@ -61,6 +63,7 @@ impl Target for EtcdAnswers {
             b"\"canceled\":true",
             b"\"TTL\":\"5\"",
             b"\"ID\":\"7\"",
+            b"\"dbSize\":\"20480\",\"dbSizeInUse\":\"16384\"",
             b"\"code\":8,\"message\":\"etcdserver: mvcc: database space exceeded\"",
             b"\\ud800",
             b"null",
