@@ -12,8 +12,9 @@ and # starts a comment. Other tools call
 
     refreshed(PART)     to bring the tree of tests or bench up to date; returns its folder, in which crates/NAME are the
                         crates of crates.txt and of PART/crates.list, as copies, beside a crates.txt of both and
-                        HANDLES. There each command of `rt` works. The part PROOFS has no crates of its own and no
-                        must-fail/, so that `rt ci` proves there, and tools/testing/together.py tries the edits
+                        HANDLES. There each command of `rt` works
+    proofs(CRATES)      for the tree of these crates of crates.txt alone, with nothing built and without must-fail/, in
+                        which `rt ci` proves, before tools/testing/together.py tries the edits
     folders(PART)       for each crate of PART/crates.list by its name, in the list's order: its folder here
     listed(PART)        for the same with each one's line of crates.txt: name: (folder, line)
     take_back(PART, TREE, CRATE)    to write a crate's files in a tree to its folder in the repository
@@ -34,7 +35,7 @@ import shutil
 import sys
 
 TOP = pathlib.Path(__file__).resolve().parent.parent
-# The part that has the crates of crates.txt alone.
+# The name of the tree that has only crates of crates.txt.
 PROOFS = "proofs"
 # How a file's name ends in the repository and in the tree, by its folder in the crate.
 ENDINGS = {"src": (".rs", ".rt"), "specs": (".antt.txt", ".antt"), "proofs": (".antt.txt", ".antt")}
@@ -43,8 +44,6 @@ ENDINGS = {"src": (".rs", ".rt"), "specs": (".antt.txt", ".antt"), "proofs": (".
 def listed(part):
     """Returns the folder and the line of crates.txt of each crate of the part, by its name."""
     found = {}
-    if part == PROOFS:
-        return found
     for row in (TOP / part / "crates.list").read_text(encoding="utf-8").split("\n"):
         folder, _, line = row.partition("#")[0].strip().partition(" ")
         if folder:
@@ -83,14 +82,27 @@ def wanted(part):
     found = {}
     for name, folder in {**crates, **beside}.items():
         for file in files_of(folder):
-            if part == PROOFS and file.parts[0] == "must-fail":
-                continue
             there = name_in_tree(file) if name in beside else file
             found[pathlib.Path("crates", name, there)] = (folder / file).read_bytes()
     lines = [(TOP / "crates.txt").read_text(encoding="utf-8").strip("\n"), *(line for _, line in listed(part).values())]
-    found[pathlib.Path("crates.txt")] = ("\n".join(lines) + "\n").encode()
-    found[pathlib.Path("HANDLES")] = (TOP / "HANDLES").read_bytes()
+    return {**found, **at_the_top(lines)}
+
+
+def wanted_proofs(crates):
+    """Returns the contents of the tree in which these crates are proved."""
+    lines = (TOP / "crates.txt").read_text(encoding="utf-8").split("\n")
+    found = at_the_top(it for it in lines if it and it.replace(":", " ").split()[0] in crates)
+    for crate in crates:
+        for file in files_of(TOP / "crates" / crate):
+            if file.parts[0] != "must-fail":
+                found[pathlib.Path("crates", crate, file)] = (TOP / "crates" / crate / file).read_bytes()
     return found
+
+
+def at_the_top(lines):
+    """Returns the contents of the files at the top of a tree, with these lines of crates.txt."""
+    handles = (TOP / "HANDLES").read_bytes()
+    return {pathlib.Path("crates.txt"): ("\n".join(lines) + "\n").encode(), pathlib.Path("HANDLES"): handles}
 
 
 def take_back(part, tree, crate):
@@ -120,13 +132,24 @@ def write(file, text):
         file.write_bytes(text)
 
 
+def proofs(crates):
+    """Brings the tree in which these crates are proved up to date, and returns its folder."""
+    tree = filled(tree_of(PROOFS), lambda: wanted_proofs(crates))
+    for built in tree.glob("crates/*/out"):
+        shutil.rmtree(built)
+    return tree
+
+
 def refreshed(part):
     """Brings the part's tree up to date, and returns its folder. Of two that do so at once the second waits."""
-    tree = tree_of(part)
+    return filled(tree_of(part), lambda: wanted(part))
+
+
+def filled(tree, contents):
     (tree / "crates").mkdir(parents=True, exist_ok=True)
     with open(tree / ".lock", "w") as lock:
         fcntl.flock(lock, fcntl.LOCK_EX)
-        files = wanted(part)
+        files = contents()
         remove_others(tree, files)
         for path, text in files.items():
             write(tree / path, text)

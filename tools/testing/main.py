@@ -14,9 +14,7 @@ any folder.
 """
 import argparse
 import os
-import pathlib
 import resource
-import shutil
 import sys
 import tempfile
 import time
@@ -60,24 +58,11 @@ def arguments():
     return given
 
 
-def keeps():
-    """Returns whether `rt ci` goes on from its kept proofs, unless it is told not to, and takes crates: not all kits
-    can. If rt isn't there, the part that proves says so."""
-    rt = shutil.which("rt")
-    return bool(rt) and b"--anew" in pathlib.Path(rt).resolve().read_bytes()
-
-
 def proofs_of(given):
-    """Returns the crates that must be proved: none, these crates and those on which they rest, or all."""
+    """Returns the proofs of no crate, of these and those above and below them, or of all."""
     if given.quick:
-        return Proofs([], [])
-    words = ["rt", "ci", *(["--anew"] if keeps() and given.anew else [])]
-    if not given.crates:
-        return Proofs(words, stages.listed())
-    if not keeps():
-        raise SystemExit("test: this kit's `rt ci` takes no crates: leave them out, or `rt verdict` in a crate's folder")
-    names = sorted(stages.above(given.crates))
-    return Proofs([*words, *names], stages.below(names))
+        return Proofs([])
+    return Proofs(stages.below(stages.above(given.crates)) if given.crates else stages.listed(), given.anew)
 
 
 def stages_of(given, proofs, room):

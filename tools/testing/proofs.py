@@ -29,19 +29,17 @@ LAST = re.compile(r"^(\d+) passed, (\d+) failed")
 
 
 class Proofs:
-    """A run of `rt ci`, with the words that it is given, and of the edits of the crates that it proves; without words
-    there is nothing to prove. What an earlier run here passed of the same files is taken as it is, unless all is tried
-    anew."""
+    """The proofs of these crates, which rest on none of ours but themselves, by `rt ci`; and their edits. What an
+    earlier run here passed of the same files is taken as it is, unless all is tried anew."""
 
     name = "proofs"
 
-    def __init__(self, words, crates):
-        self.words, self.crates, self.known = words, crates if words else [], costs.read()
+    def __init__(self, crates, is_anew=False):
+        self.crates, self.is_anew, self.known = sorted(crates), is_anew, costs.read()
         self.edits = {it: must_fail.edits_of(it) for it in self.crates}
         self.checks, self.proved, self.tried = {}, {}, collections.Counter()
         self.block, self.process, self.now, self.trials, self.is_over = [], None, [], [], False
         self.last, self.has_failed = collections.deque([""], SHOWN), False
-        self.say = print
 
     # Returns the answer to Runner.load.
 
@@ -74,7 +72,7 @@ class Proofs:
     def work(self, _room):
         """Runs `rt ci` in a tree of its own, then tries the edits over the libraries that it built there, and gives a
         verdict for each crate, program and edit."""
-        tree = beside.refreshed(beside.PROOFS)
+        tree = beside.proofs(self.crates)
         watch = threading.Thread(target=self.watch, daemon=True)
         watch.start()
         yield from self.prove(tree)
@@ -83,8 +81,9 @@ class Proofs:
         watch.join()
 
     def prove(self, tree):
+        words = ["rt", "ci", *(["--anew"] if self.is_anew else [])]
         how = {"stdout": subprocess.PIPE, "stderr": subprocess.STDOUT, "text": True, "errors": "replace"}
-        self.process = subprocess.Popen(limited.bound(self.words), cwd=tree, **how)
+        self.process = subprocess.Popen(limited.bound(words), cwd=tree, **how)
         for line in self.process.stdout:
             for found in self.read(line.rstrip("\n")):
                 self.has_failed = self.has_failed or found.reason is not None
@@ -96,7 +95,7 @@ class Proofs:
     def try_edits(self, tree):
         """Tries the edits of each crate that was proved, on each processor those of one crate, the dearest first."""
         dearest = sorted(self.crates, key=lambda it: -self.known.get(it, costs.Cost(60, 60, 1, 120)).edits)
-        self.trials = [Trial(it, tree, "--anew" in self.words) for it in dearest if self.proved.get(it)]
+        self.trials = [Trial(it, tree, self.is_anew) for it in dearest if self.proved.get(it)]
         found, count = queue.SimpleQueue(), sum(len(self.edits[it.crate]) for it in self.trials)
         with concurrent.futures.ThreadPoolExecutor(len(os.sched_getaffinity(0))) as pool:
             for trial in self.trials:

@@ -37,7 +37,6 @@ class Runner:
         self.known, self.seconds, self.running = costs.read(), {}, {}
         self.passed, self.failed, self.turn, self.stopped = 0, [], threading.Lock(), threading.Event()
         self.progress = Progress(self.load)
-        self.proofs.say = self.progress.say
 
     def run(self):
         """Runs all, and returns whether nothing failed."""
