@@ -110,6 +110,8 @@ struct WorldModel {
     followed: HashMap<u16, u64>,
     /// The revision at which each server's key was last written, if it is there.
     told: HashMap<u16, u64>,
+    /// The revision at which a process of each server last wrote that it executes.
+    ran: HashMap<u16, u64>,
     /// The greatest generation that each server has acked for a shard, by any of its processes.
     acks: HashMap<(u16, u64), u64>,
     shards: HashMap<u16, ShardModel>,
@@ -145,7 +147,7 @@ impl WorldModel {
                 DecodedKey::Settings => self.settle(bytes, txn)?,
                 DecodedKey::Leader => self.leader = found(reading::process(bytes), txn)?,
                 DecodedKey::Server(server) => self.follow(server, bytes, revision, txn)?,
-                DecodedKey::Ran(server) => self.run(server, txn)?,
+                DecodedKey::Ran(server) => self.run(server, revision, txn)?,
                 DecodedKey::Ack(shard, server) => self.ack(shard, server, bytes, txn)?,
                 DecodedKey::State(server) => self.restart(u64::from(server), bytes, txn)?,
                 DecodedKey::Record(shard) => self.change(shard, bytes, revision, txn)?,
@@ -193,13 +195,21 @@ impl WorldModel {
     }
 
     /// Checks a process that is about to execute. It must compare its server's key, because another process may have
-    /// taken the server over.
-    fn run(&self, server: u16, txn: &Written) -> Result<(), Broken> {
+    /// taken the server over. It must also compare the key that it writes, because another process of the server may
+    /// have executed since this one did.
+    fn run(&mut self, server: u16, revision: u64, txn: &Written) -> Result<(), Broken> {
         let told = self.told.get(&server).copied().unwrap_or(0);
         if !txn.compares.contains(&(DecodedKey::Server(server), told)) {
             return broken(
                 "who executes looks at its server's key",
                 format!("{server}, told at {told}, {txn:?}"),
+            );
+        }
+        let ran = self.ran.insert(server, revision).unwrap_or(0);
+        if !txn.compares.contains(&(DecodedKey::Ran(server), ran)) {
+            return broken(
+                "who executes looks at who executed last",
+                format!("{server}, written at {ran}, {txn:?}"),
             );
         }
         Ok(())
