@@ -36,6 +36,9 @@ const ELECTION: u64 = 3_500;
 /// Once nothing fails, everything must be over within this many rounds. A round has `ROUND` milliseconds.
 const SETTLING: u64 = 4_000;
 const ROUND: u64 = 50;
+/// For so many rounds calls stay unanswered that reached a member while it didn't answer. That is longer than a client
+/// waits for an answer, so it must have asked again.
+const STUCK: u64 = 120;
 const PREFIXES: [&[u8]; 2] = [b"k/", b"l/"];
 
 /// Returns all keys of a schedule.
@@ -103,7 +106,7 @@ struct ClientWorld {
     store: SharedStore,
     calls: SharedCalls,
     /// Calls that reached a member while it didn't answer. Whoever waits for them isn't answered later either, until
-    /// the schedule settles.
+    /// the schedule has been settling for a while.
     stuck: Vec<u64>,
     clients: Vec<EtcdClient>,
     tasks: Tasks,
@@ -600,16 +603,16 @@ impl ClientWorld {
     }
 
     /// Lets the schedule settle. Nothing fails any more, so all requests must be over within some time, and watches
-    /// must have told all changes.
+    /// must have told all changes. At first, calls that reached a member while it didn't answer stay unanswered.
     fn settle(&mut self) {
         locked(&self.store).is_calm = true;
-        for _ in 0..SETTLING {
+        for round in 0..SETTLING {
             self.pass_milliseconds(ROUND);
-            let calls = locked_calls(&self.calls).unanswered();
-            for call in calls {
-                self.stuck.retain(|it| *it != call);
-                self.deliver_call(call);
+            if round == STUCK {
+                self.stuck.clear();
             }
+            let calls = locked_calls(&self.calls).unanswered();
+            calls.into_iter().for_each(|it| self.deliver_call(it));
             self.tell_watches();
             self.lapse();
             self.tasks.run();
