@@ -1,6 +1,7 @@
 use crate::operator_command::OperatorCommand;
-use std::collections::BTreeSet;
+use std::collections::{BTreeMap, BTreeSet};
 use std::sync::{Arc, Mutex};
+use std::time::Duration;
 
 /// Everything that operators asked.
 pub type SharedLedger = Arc<Mutex<Ledger>>;
@@ -15,6 +16,13 @@ pub struct Ledger {
     pub forgotten: Option<String>,
     /// A step that a link dropped although its process still runs.
     pub dropped: Option<String>,
+    /// How many steps links got.
+    pub steps: u64,
+    /// For each process and each server to which it sent steps, the last of these that went on although its connection
+    /// was lost: when it was lost, and its number.
+    pub resumed: BTreeMap<(u64, u16), (Duration, u64)>,
+    /// A step that went on after a later step that was lost together with it.
+    pub overtaken: Option<String>,
 }
 
 impl Ledger {

@@ -453,6 +453,7 @@ impl World {
         Some(LinkShape {
             parcels: self.parcels.clone(),
             ledger: self.ledger.clone(),
+            time: self.time.clone(),
             bug: self.bug,
             wait: WAIT,
             is_older,

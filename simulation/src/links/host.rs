@@ -68,6 +68,11 @@ impl Host for LinkedHost {
         if self.bug == Some(Bug::DroppedReturn) {
             return Ok(());
         }
+        let server = returned.destination.server();
+        returned
+            .requests
+            .iter()
+            .for_each(|it| it.note_resumed(server));
         let steps = returned.requests.into_iter().map(LinkedStep::into_step);
         durable.submit_again(returned.destination.0, steps.collect(), returned.revision);
         Ok(())

@@ -4,6 +4,7 @@ use crate::bug::Bug;
 use crate::ledger::SharedLedger;
 use crate::machine_clock::MachineClock;
 use crate::mail::Sender;
+use crate::time::Time;
 use durkenzo_control::links::{Admission, Identity, Links, Secret, Terms, FIRST_TABLE};
 use durkenzo_driver::{Clock, Durable, HandOver, Member};
 use std::sync::Arc;
@@ -17,6 +18,7 @@ const SECRET: &[u8] = b"a secret";
 pub struct LinkShape {
     pub parcels: Parcels,
     pub ledger: SharedLedger,
+    pub time: Time,
     pub bug: Option<Bug>,
     /// How long a request waits.
     pub wait: Duration,
@@ -46,10 +48,11 @@ impl LinkShape {
 
     /// Returns a function that sends steps to other processes by these links.
     pub fn hand_over(&self, links: &Links<LinkedHost>, sender: Sender) -> HandOver {
-        let (links, ledger, bug) = (links.clone(), self.ledger.clone(), self.bug);
+        let (links, bug) = (links.clone(), self.bug);
+        let (ledger, time) = (self.ledger.clone(), self.time.clone());
         Box::new(move |elsewhere, steps| {
             let steps = steps.into_iter();
-            let steps = steps.map(|it| LinkedStep::new(it, sender.life, &ledger, bug));
+            let steps = steps.map(|it| LinkedStep::new(it, sender.life, (&ledger, &time), bug));
             links.forward(&LinkedDestination(elsewhere), steps.collect());
         })
     }

@@ -1,8 +1,10 @@
 use super::SimulatedReason;
 use crate::bug::Bug;
 use crate::ledger::SharedLedger;
+use crate::time::Time;
 use durkenzo_control::links::{ForwardedMessage, ForwardedRequest, FIRST_TABLE};
 use durkenzo_driver::{Begin, NotDone, WorkStep};
+use std::time::Duration;
 
 /// The version of the table of commands of a process, unless the process is of the version before.
 pub const TABLE: u16 = FIRST_TABLE + 1;
@@ -13,18 +15,49 @@ pub struct LinkedStep {
     step: Option<WorkStep>,
     /// The process that gave the step to the link.
     life: u64,
+    /// The number of the step. Numbers rise in the order in which links get steps.
+    number: u64,
+    /// When the link lost its answer, if it was sent.
+    lost: Option<Duration>,
     ledger: SharedLedger,
+    time: Time,
     bug: Option<Bug>,
 }
 
 impl LinkedStep {
     /// Returns the step as this process gives it to a link.
-    pub fn new(step: WorkStep, life: u64, ledger: &SharedLedger, bug: Option<Bug>) -> LinkedStep {
+    pub fn new(
+        step: WorkStep,
+        life: u64,
+        (ledger, time): (&SharedLedger, &Time),
+        bug: Option<Bug>,
+    ) -> LinkedStep {
+        let mut held = ledger.lock().expect("no schedule goes on after a panic");
+        held.steps += 1;
         LinkedStep {
             step: Some(step),
             life,
+            number: held.steps,
+            lost: None,
             ledger: ledger.clone(),
+            time: time.clone(),
             bug,
+        }
+    }
+
+    /// Notes that the step goes on after it was sent to this server. If a later step was lost together with this one,
+    /// and went on before, notes that too.
+    pub fn note_resumed(&self, server: u16) {
+        let Some(lost) = self.lost else {
+            return;
+        };
+        let ledger = self.ledger.lock();
+        let mut ledger = ledger.expect("no schedule goes on after a panic");
+        let resumed = (lost, self.number);
+        let before = ledger.resumed.insert((self.life, server), resumed);
+        if before.is_some_and(|it| it.0 == lost && it.1 > self.number) {
+            let by = format!("{:?}, lost at {lost:?}", self.step().begin);
+            ledger.overtaken.get_or_insert(by);
         }
     }
 
@@ -79,7 +112,8 @@ impl ForwardedRequest for LinkedStep {
         self.end(NotDone::NotMade(format!("server {server} doesn't know it")));
     }
 
-    fn after_loss(self, why: &str) -> Option<LinkedStep> {
+    fn after_loss(mut self, why: &str) -> Option<LinkedStep> {
+        self.lost = Some(self.time.passed());
         let begin = &self.step().begin;
         // If such a step is done twice, the second time changes nothing.
         let is_harmless = begin.only_reads() || matches!(begin, Begin::Numbered(..));

@@ -68,13 +68,17 @@ impl World {
         }
     }
 
-    /// Checks that links ended all requests that they got, or gave them back.
+    /// Checks that links ended all requests that they got, or gave them back. Requests that were lost together must
+    /// have gone on in their order, so that no later request of a client comes before an earlier one.
     pub(super) fn judge_links(&mut self) {
         let ledger = self.ledger.lock().expect("no panic");
-        let dropped = ledger.dropped.clone();
+        let (dropped, overtaken) = (ledger.dropped.clone(), ledger.overtaken.clone());
         drop(ledger);
         if let Some(dropped) = dropped {
             self.find("what a link gets is ended or goes on", dropped);
+        }
+        if let Some(overtaken) = overtaken {
+            self.find("what a link loses goes on in its order", overtaken);
         }
         if let Some(network) = &self.network {
             (self.tally.reached, self.tally.broken) = (network.made, network.broken);
