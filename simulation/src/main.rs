@@ -172,6 +172,8 @@ fn search(wanted: &Options) -> ExitCode {
                     "broken by seed {seed}, schedule {count}, {part}: {}",
                     broken.law
                 );
+                let spent = processor_time().as_secs_f64();
+                println!("found in {spent:.1} s of a processor");
                 let faults = shrunk(&plan).unwrap_or_default();
                 return show(&Plan {
                     kept: Kept::Only(faults.into_iter().collect()),
