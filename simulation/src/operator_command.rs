@@ -24,6 +24,12 @@ impl OperatorCommand {
         is_awaited && self.told.is_none() && !self.is_over
     }
 
+    /// Returns whether the leader answered the command.
+    pub fn is_led(&self) -> bool {
+        let told = self.told.as_ref();
+        told.is_some_and(|it| !it.1.starts_with("REFUSED NotLeader"))
+    }
+
     /// Returns whether the answer says that the command was done.
     pub fn is_done(&self) -> bool {
         let told = self.told.as_ref().map(|it| it.1.as_str());
