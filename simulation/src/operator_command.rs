@@ -30,6 +30,33 @@ impl OperatorCommand {
         told.is_some_and(|it| !it.1.starts_with("REFUSED NotLeader"))
     }
 
+    /// Returns whether this restart was refused for good, although its server may still be stopped for it. If somebody
+    /// else asked for a restart of the server by then, that one may go on, so this returns false.
+    pub fn is_left(&self, all: &[OperatorCommand], store: &SharedStore) -> bool {
+        let Some((at, told)) = self.told.as_ref() else {
+            return false;
+        };
+        let is_refused =
+            told.starts_with("REFUSED") && !UNJUDGED.iter().any(|it| told.starts_with(it));
+        let asked = all
+            .iter()
+            .filter(|it| it.since <= *at && it.words == self.words);
+        if self.words[1] != "RESTART" || !is_refused || asked.count() > 1 {
+            return false;
+        }
+        let past = Past {
+            store,
+            since: *at,
+            until: *at,
+        };
+        past.has_state(self.number(2).unwrap_or(0), APPROVED)
+    }
+
+    /// Returns the number in the word at this place, if it is one.
+    fn number(&self, at: usize) -> Option<u16> {
+        self.words.get(at).and_then(|it| it.parse().ok())
+    }
+
     /// Returns whether the answer says that the command was done.
     pub fn is_done(&self) -> bool {
         let told = self.told.as_ref().map(|it| it.1.as_str());
@@ -47,8 +74,7 @@ impl OperatorCommand {
             since: self.since,
             until: *at,
         };
-        let number = |at: usize| self.words.get(at).and_then(|it| it.parse().ok());
-        let (first, second) = (number(2).unwrap_or(0), number(3).unwrap_or(0));
+        let (first, second) = (self.number(2).unwrap_or(0), self.number(3).unwrap_or(0));
         match self.words[1].as_str() {
             "MIGRATE" | "REASSIGN" => past.has_record(first, |it| it.owner == u64::from(second)),
             "PAUSE" => past.has_record(first, |it| it.phase == PAUSED),
@@ -96,6 +122,13 @@ impl Past<'_> {
 
 /// The beginnings of answers that don't say that the command was done.
 const NOT_DONE: [&str; 3] = ["REFUSED", "UNKNOWN", "PEERDOWN"];
+/// The names of refusals after which the leader, or the next one, may go on with a restart.
+const UNJUDGED: [&str; 4] = [
+    "REFUSED NotLeader",
+    "REFUSED StoreDown",
+    "REFUSED StoreFull",
+    "REFUSED Stopping",
+];
 /// A record or a state that was never written.
 const VACANT: [u8; 17] = {
     let mut bytes = [0; 17];
@@ -106,6 +139,7 @@ const VACANT: [u8; 17] = {
 const SERVING: u64 = 1;
 const PAUSED: u64 = 5;
 const UP: u64 = 0;
+const APPROVED: u64 = 2;
 const STOPPED: u64 = 3;
 const FAILED: u64 = 4;
 

@@ -6,6 +6,7 @@ use crate::fault::Fault;
 use crate::key::DecodedKey;
 use crate::law::Broken;
 use crate::operator;
+use crate::operator_command::OperatorCommand;
 use crate::operator_reply::OperatorReply;
 use crate::process::Process;
 use crate::reading::{self, DecodedRecord};
@@ -445,6 +446,10 @@ impl World {
         self.tally.done += commands.filter(|it| it.is_done()).count() as u64;
         if let Some(forgotten) = &ledger.forgotten {
             self.find("each command is answered once", forgotten.clone());
+        }
+        let is_left = |it: &&OperatorCommand| it.is_left(&ledger.commands, &self.store);
+        if let Some(left) = ledger.commands.iter().find(is_left) {
+            self.find("a restart that is refused is given up", format!("{left:?}"));
         }
         let untrue = ledger.commands.iter().find(|it| !it.is_true(&self.store));
         if let Some(untrue) = untrue {

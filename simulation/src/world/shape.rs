@@ -12,12 +12,15 @@ use crate::world::fleets::FleetOfWorld;
 use durkenzo_driver::{Reads, ShardOptions};
 
 const SHARDS: u16 = 2;
-/// How many shards there are if processes have the control that ships.
+/// How many shards there are if processes have the control that ships. If there are fewer shards than servers, some
+/// servers have none, so that their restarts wait for nothing.
 const CONTROLLED_SHARDS: u16 = 4;
+const FEW_SHARDS: u16 = 2;
 /// A log has at most this many batches before a base replaces them.
 const MOST_BATCHES: u64 = 3;
-/// These numbers give clocks and fleets random numbers of their own.
+/// These numbers give clocks, fleets and numbers of shards random numbers of their own.
 const OF_CLOCKS: u64 = 0xc10c;
+const OF_SHARDS: u64 = 0x5ba2d;
 const OF_FLEETS: u64 = 0xf1ee7;
 
 /// The events of each schedule without a fleet, and their weights.
@@ -105,7 +108,7 @@ impl Shape {
             None => chance.is_true(1, 4) || (plan.part == Part::Fleet && chance.is_true(2, 3)),
         };
         let (shards, more): (_, &[_]) = match is_controlled {
-            true => (CONTROLLED_SHARDS, &CONTROLLED),
+            true => (controlled_shards(plan), &CONTROLLED),
             false => (SHARDS, &COMMANDED),
         };
         let always: &[_] = match plan.part {
@@ -140,6 +143,15 @@ impl Shape {
             let callers = Callers::new(&shape, time, timeline);
             FleetOfWorld::new(shape, callers, (chance, self.shards))
         })
+    }
+}
+
+/// Draws how many shards there are if processes have the control that ships.
+fn controlled_shards(plan: &Plan) -> u16 {
+    let mut chance = Chance::new(plan.seed ^ OF_SHARDS);
+    match plan.part == Part::Processes && plan.bug.is_none() && chance.is_true(1, 4) {
+        true => FEW_SHARDS,
+        false => CONTROLLED_SHARDS,
     }
 }
 
