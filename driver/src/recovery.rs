@@ -15,6 +15,13 @@ const PARTS: u64 = 4;
 const MOST: u64 = 256;
 const SMALL: u64 = 1 << 20;
 
+/// A reading of at most so many bytes is short. After a longer one the server reads what was written meanwhile, at most
+/// so often.
+const FEW_BYTES: u64 = 256 << 10;
+const MORE: u32 = 8;
+/// How many bytes are read in the time that reading a batch takes in addition to its bytes.
+pub(crate) const BATCH_BYTES: u64 = 1 << 10;
+
 /// Why a server couldn't recover a shard.
 #[derive(Clone, Debug)]
 pub(crate) enum RecoveryFault {
@@ -86,6 +93,26 @@ pub(crate) struct LogRead {
     bytes_read: u64,
 }
 
+impl LogRead {
+    /// Returns how many bytes are read in the time that this took.
+    fn cost(&self) -> u64 {
+        self.base.unwrap_or(0) + self.bytes_read + self.batches_read * BATCH_BYTES
+    }
+
+    /// Returns this with a reading that went on after it.
+    fn and(self, more: LogRead) -> LogRead {
+        match more.base {
+            Some(_) => more,
+            None => LogRead {
+                base: self.base,
+                batches: more.batches,
+                batches_read: self.batches_read + more.batches_read,
+                bytes_read: self.bytes_read + more.bytes_read,
+            },
+        }
+    }
+}
+
 /// The length of a shard's log behind its base.
 #[derive(Clone, Copy, Debug, Default)]
 pub(crate) struct LogSize {
@@ -132,17 +159,47 @@ struct Moment {
 
 /// Returns a server that has read the shard. If the server has kept the requests that it had made, it reads only the
 /// batches that it lacks. If those are gone because a base has replaced them, it reads the base, as any other server
-/// does.
+/// does. After a long reading it goes on, so that it lacks little.
 pub(crate) fn recover(
     store: &dyn Store,
     kept: Option<Core>,
     place: ServerPlace,
 ) -> Result<Recovered, Unrecovered> {
-    match kept {
-        Some(core) => match caught_up(store, core, place.shard)? {
-            Some(recovered) => Ok(recovered),
-            None => Ok(read_whole(store, place)?),
-        },
+    let mut read = match kept {
+        Some(core) => read_on(store, core, place)?,
+        None => read_whole(store, place)?,
+    };
+    let mut cost = read.log.cost();
+    for _ in 0..MORE {
+        if cost <= FEW_BYTES || !has_less(store, &mut read.core, place.shard, cost) {
+            break;
+        }
+        let more = read_on(store, read.core, place)?;
+        cost = more.log.cost();
+        read = Recovered {
+            log: read.log.and(more.log),
+            ..more
+        };
+    }
+    Ok(read)
+}
+
+/// Returns whether something was written since the server read, and reading it takes much less time than the reading
+/// before, which cost so much. Otherwise the owner writes about as fast as the server reads.
+fn has_less(store: &dyn Store, core: &mut Core, shard: u16, cost: u64) -> bool {
+    match (moment(store, shard), core.batch_count()) {
+        (Ok(now), Ok(made)) => {
+            let lacks = now.named.batches.saturating_sub(made);
+            lacks > 0 && 2 * lacks * BATCH_BYTES <= cost
+        }
+        (Err(_), _) | (_, Err(_)) => false,
+    }
+}
+
+/// Returns the server once it has read what it lacks, or the whole shard if that is gone.
+fn read_on(store: &dyn Store, core: Core, place: ServerPlace) -> Result<Recovered, Unrecovered> {
+    match caught_up(store, core, place.shard)? {
+        Some(recovered) => Ok(recovered),
         None => Ok(read_whole(store, place)?),
     }
 }

@@ -48,16 +48,17 @@ impl StoredRecord {
             .is_some_and(|it| matches!(it.stand, Stand::Taken { .. }))
     }
 
-    /// Returns the generation that the server must ack, if the leader waits for that: the server is the next owner of a
-    /// prepared shard, or no longer executes by this record.
-    pub(crate) fn acked_by(&self, server: u16) -> Option<u64> {
+    /// Returns the generation that the server must ack because it no longer executes by this record, if the leader
+    /// waits for that.
+    pub(crate) fn let_go_by(&self, server: u16) -> Option<u64> {
         let record = self.record()?;
-        let awaited = match record.stand {
-            Stand::Prepared { next, .. } => Some(next),
+        let lets_go = match record.stand {
             Stand::Forwarding { owner, .. } | Stand::Paused(owner) => Some(owner),
-            Stand::Vacant | Stand::Serving(_) | Stand::Taken { .. } => None,
+            Stand::Vacant | Stand::Serving(_) | Stand::Prepared { .. } | Stand::Taken { .. } => {
+                None
+            }
         };
-        (awaited == Some(server)).then_some(record.generation)
+        (lets_go == Some(server)).then_some(record.generation)
     }
 
     /// Returns whether the server owns the shard, or is its next or previous owner.

@@ -1,9 +1,10 @@
 //! Tests of bases that are given up before their parts are written.
 mod common;
 
+use common::cluster::until;
 use common::handing::{Handed, Handing};
-use common::{add, held, led, opened};
-use durkenzo_driver::{CompactFault, Durable, MapReply};
+use common::{add, held, led, opened, write};
+use durkenzo_driver::{CompactFault, Durable, MapReply, MapRequest};
 use durkenzo_store::{Done, Embedded, Store, Transaction, WriteError};
 use std::sync::atomic::{AtomicBool, Ordering};
 use std::sync::{Arc, Mutex};
@@ -150,4 +151,23 @@ fn a_compaction_tells_of_bases_that_found_no_room() {
     holding.refuses.store(false, Ordering::Release);
     holding.let_go_during(|| durable.compact()).unwrap();
     assert_eq!(held(&durable, 0, b"a"), Ok(vec![MapReply::Count(8)]));
+}
+
+/// Reading 59 batches takes as long as reading this base, though the log may have 7.
+#[test]
+fn a_large_base_is_replaced_once_its_log_takes_as_long_to_read() {
+    let store: Arc<dyn Store> = Arc::new(Embedded::in_memory());
+    let durable = Arc::new(opened(&store, 1));
+    drop(led(&durable));
+    let text = MapRequest::Put(b"text".as_slice().into(), vec![b'x'; 60_000]);
+    write(&durable, 0, vec![text]).unwrap();
+    durable.compact().unwrap();
+    let batches = || store.read_all(b"batch/").unwrap().pairs.len();
+    until("the batch is deleted", || batches() == 0);
+    (0..50).for_each(|_| drop(add(&durable, 0, b"a", 1).unwrap()));
+    thread::sleep(PAUSE);
+    assert_eq!(batches(), 50);
+    (0..20).for_each(|_| drop(add(&durable, 0, b"a", 1).unwrap()));
+    until("a base is made", || batches() < 50);
+    assert_eq!(held(&durable, 0, b"a"), Ok(vec![MapReply::Count(70)]));
 }

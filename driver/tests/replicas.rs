@@ -4,7 +4,7 @@ mod common;
 use common::cluster::{campaign, kill, settle, soon, until, Net, Node};
 use common::counting::{Counting, Counts, Loss};
 use common::{add, held, write};
-use durkenzo_driver::{ControlCommand, DurableControl, MapReply, MapRequest};
+use durkenzo_driver::{ControlCommand, DurableControl, MapReply, MapRequest, Next};
 use durkenzo_store::{Embedded, Store};
 use std::sync::atomic::{AtomicBool, Ordering};
 use std::sync::{Arc, Mutex};
@@ -74,6 +74,14 @@ impl Trio {
         let heads = counts.heads();
         self.control.command(change).unwrap();
         until("the next owner reads", || counts.heads() > heads);
+    }
+
+    /// Waits until the control goes on because the next owner is prepared.
+    fn is_prepared(&mut self) {
+        let goes_on = Next::Command(ControlCommand::PrepareDropShard(0));
+        until("the next owner is prepared", || {
+            self.control.next_of_shard(0).unwrap() == goes_on
+        });
     }
 }
 
@@ -166,15 +174,83 @@ fn the_next_owner_reads_before_it_executes() {
 }
 
 #[test]
+fn the_owner_executes_until_the_next_owner_has_read() {
+    let mut trio = Trio::with_base();
+    trio.counts[1].is_down.store(true, Ordering::Release);
+    trio.moves_to(2);
+    // Nobody asks it for the shard, and it reads again all the same.
+    let heads = trio.counts[1].heads();
+    until("it reads again", || trio.counts[1].heads() > heads + 1);
+    assert_eq!(trio.control.next_of_shard(0).unwrap(), Next::Waits);
+    trio.adds(1, BATCHES + 1);
+    assert_eq!(trio.control.next_of_shard(0).unwrap(), Next::Waits);
+    trio.counts[1].is_down.store(false, Ordering::Release);
+    trio.is_prepared();
+    let parts = trio.counts[1].parts();
+    assert!(parts > 0);
+    settle(&mut trio.control, 0);
+    trio.adds(2, BATCHES + 2);
+    assert_eq!(trio.counts[1].parts(), parts);
+}
+
+#[test]
+fn the_next_owner_reads_what_is_written_since_before_anybody_asks_it() {
+    let mut trio = Trio::with_base();
+    trio.moves_to(2);
+    trio.is_prepared();
+    let parts = trio.counts[1].parts();
+    let batches = trio.counts[1].batches();
+    (1..=9).for_each(|more| trio.adds(1, BATCHES + more));
+    until("it reads", || trio.counts[1].batches() == batches + 9);
+    assert_eq!(trio.counts[1].parts(), parts);
+}
+
+/// The transaction of a killed member has an unknown outcome, and for a while nothing is read.
+#[test]
+fn a_killed_member_costs_the_next_owner_no_base() {
+    let mut trio = Trio::with_base();
+    trio.moves_to(2);
+    trio.is_prepared();
+    let counts = trio.counts[..2].to_vec();
+    let parts: Vec<_> = counts.iter().map(|it| it.parts()).collect();
+    let set_down = |is_down| {
+        let each = counts.iter();
+        each.for_each(|it| it.is_down.store(is_down, Ordering::Release));
+    };
+    set_down(true);
+    counts[0].lose(Loss::Made);
+    thread::scope(|scope| {
+        let node = &trio.nodes[0];
+        scope.spawn(|| adds(node, BATCHES + 1));
+        let heads: Vec<_> = counts.iter().map(|it| it.heads()).collect();
+        until("both read", || {
+            let mut each = counts.iter().zip(&heads);
+            each.all(|(it, heads)| it.heads() > heads + 1)
+        });
+        set_down(false);
+    });
+    for more in 2..=BATCHES {
+        trio.adds(1, BATCHES + more);
+    }
+    settle(&mut trio.control, 0);
+    trio.adds(2, 2 * BATCHES + 1);
+    let after: Vec<_> = counts.iter().map(|it| it.parts()).collect();
+    assert_eq!(after, parts);
+}
+
+#[test]
 fn the_next_owner_reads_the_base_if_what_it_lacks_is_gone() {
     let mut trio = Trio::with_base();
     trio.moves_to(2);
-    until("the base is read", || trio.counts[1].parts() > 0);
+    trio.is_prepared();
     let parts = trio.counts[1].parts();
+    trio.counts[1].is_down.store(true, Ordering::Release);
     for more in 1..=BATCHES {
         trio.adds(1, BATCHES + more);
     }
+    trio.nodes[0].durable.compact().unwrap();
     trio.await_base();
+    trio.counts[1].is_down.store(false, Ordering::Release);
     settle(&mut trio.control, 0);
     trio.adds(2, 2 * BATCHES + 1);
     assert!(trio.counts[1].parts() > parts);
@@ -213,9 +289,8 @@ fn a_large_shard_moves_without_a_wait() {
     durable.compact().unwrap();
     let parts = trio.store.read_all(b"base/").unwrap().pairs.len();
     trio.moves_to(2);
-    until("the next owner has read it", || {
-        trio.counts[1].parts() >= parts
-    });
+    trio.is_prepared();
+    assert!(trio.counts[1].parts() >= parts);
     let is_over = AtomicBool::new(false);
     let warm = thread::scope(|scope| {
         let load = scope.spawn(|| {

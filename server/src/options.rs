@@ -144,7 +144,7 @@ pub struct Options {
     #[arg(long, value_name = "always|second|no", default_value = "always", requires = "data", help_heading = DATA)]
     pub sync: Sync,
 
-    /// Most batches of a shard's log before a base replaces them; the next start reads from the base
+    /// Most batches of a shard's log before a base replaces them, or more if the base is large; the next start reads it
     #[arg(
         long,
         value_name = "COUNT",

@@ -4,7 +4,7 @@ use super::watches::written;
 use super::{ShardOptions, STOP};
 use crate::clock::Clock;
 use crate::shard::{Action, Shard, Ticket};
-use crate::{keys, Acks, NotDone, Own, StoredRecord};
+use crate::{keys, Acks, Member, NotDone, Own, StoredRecord};
 use durkenzo_store::{Outcome, Room, Seen, Store, Transaction, WriteError};
 use std::collections::BTreeSet;
 use std::sync::atomic::{AtomicBool, AtomicU64, AtomicUsize, Ordering};
@@ -93,6 +93,10 @@ impl DurableInner {
                     .into_iter()
                     .for_each(|it| it.work.end(Err(NotDone::Busy))),
             },
+            Action::Prepared(generation) => {
+                let own = self.acking_server();
+                own.into_iter().for_each(|it| it.ack(shard, generation));
+            }
             Action::Look => self.hand_to_reader(ReaderJob::Record(shard)),
             Action::Renew => self.hand_to_reader(ReaderJob::Process(shard)),
             Action::Hold(holder) => holder(),
@@ -175,6 +179,12 @@ impl DurableInner {
         }
     }
 
+    /// Returns this process's server, if the process itself acks records.
+    fn acking_server(&self) -> Option<&Member> {
+        let own = self.own.as_ref().filter(|it| it.acks == Acks::AsRead);
+        own.map(|it| &*it.member)
+    }
+
     /// Processes records that the watch has seen.
     pub(super) fn see(self: &Arc<DurableInner>, seen: Seen) {
         let (moment, records) = written(seen);
@@ -183,9 +193,8 @@ impl DurableInner {
             if let Some(shard) = keys::shard_of_record(&it.key) {
                 let stored = StoredRecord::new(it.value, it.revision);
                 is_awaited |= stored.is_awaited();
-                let own = self.own.as_ref().filter(|it| it.acks == Acks::AsRead);
-                let member = own.map(|it| &it.member);
-                let acked = member.and_then(|it| Some((it, stored.acked_by(it.server())?)));
+                let member = self.acking_server();
+                let acked = member.and_then(|it| Some((it, stored.let_go_by(it.server())?)));
                 self.with(shard, |it, actions| it.see(stored, self.now(), actions));
                 // From here on the shard uses this record.
                 if let Some((member, generation)) = acked {
@@ -225,6 +234,9 @@ impl DurableInner {
         let is_full = self.is_full.load(Ordering::Acquire);
         self.with(shard, |it, actions| {
             it.drop_unwanted(actions);
+            if self.acking_server().is_some() {
+                it.prepare(now, actions);
+            }
             it.tick(now, self.shard_options.wait, actions);
             it.begin_base(is_full, now, actions);
         });

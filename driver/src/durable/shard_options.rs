@@ -6,7 +6,8 @@ pub struct ShardOptions {
     /// How long work waits for a shard that no server executes, before it is refused.
     pub wait: Duration,
     /// The most batches that a log has before a base replaces them, so that a server can begin there. A base comes
-    /// earlier if reading the batches takes longer than reading the base twice.
+    /// earlier if reading the batches takes longer than reading the base twice, and later if their number doesn't take
+    /// as long as reading the base once.
     pub most_batches: u64,
     /// How reads are answered.
     pub reads: Reads,

@@ -21,6 +21,8 @@ pub(crate) enum Action {
     Tell(Box<dyn Work>, work::WorkOutcome),
     /// Forwards the steps to another process's server.
     HandOver(Elsewhere, Vec<WorkStep>),
+    /// Acks the record of this generation, because this process's server is prepared to execute next.
+    Prepared(u64),
     /// Reads the record.
     Look,
     /// Takes another number of a process, because the store has forgotten the clients of this one.

@@ -1,7 +1,8 @@
 use super::{Action, ReplicaState, Shard, Ticket};
 use crate::decision::{Base, Passing};
 use crate::keys;
-use crate::recovery::LogSize;
+use crate::recovery::{LogSize, BATCH_BYTES};
+use durkenzo::Stand;
 use std::time::Instant;
 
 /// The progress of a base.
@@ -33,8 +34,9 @@ pub(super) struct BaseDemand {
 
 /// A log has at least so many bytes before it gets another base because of their number.
 const LEAST_BYTES: u64 = 1 << 20;
-/// How many bytes are read in the time that reading a batch takes in addition to its bytes.
-const BATCH_BYTES: u64 = 1 << 10;
+/// So many times as long a log may become while its shard moves, because the next owner reads the log there. If a base
+/// replaces what the next owner lacks, it must read that base.
+const MOVING: u64 = 4;
 
 impl Shard {
     /// Begins a base, if one is due.
@@ -57,8 +59,19 @@ impl Shard {
             batches,
             bytes,
         } = self.log;
-        let cost = bytes + batches * BATCH_BYTES;
-        batches >= self.shard_options.most_batches || cost >= LEAST_BYTES.max(2 * base)
+        let by_number = batches * BATCH_BYTES;
+        let times = if self.is_moving() { MOVING } else { 1 };
+        let most_batches = self.shard_options.most_batches.saturating_mul(times);
+        let are_many = batches >= most_batches && by_number >= times * base;
+        are_many || bytes + by_number >= times * LEAST_BYTES.max(2 * base)
+    }
+
+    /// Returns whether the shard has a next owner.
+    fn is_moving(&self) -> bool {
+        self.stored.record().is_some_and(|it| match it.stand {
+            Stand::Prepared { .. } | Stand::Forwarding { .. } => true,
+            Stand::Vacant | Stand::Serving(_) | Stand::Taken { .. } | Stand::Paused(_) => false,
+        })
     }
 
     /// Begins a base, if the server that executes is in this process and makes none. If the server hasn't read the

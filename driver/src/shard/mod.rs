@@ -4,6 +4,7 @@ mod base_pause;
 mod destination;
 mod lease_reads;
 mod lister;
+mod preparation;
 mod replica_state;
 mod retry;
 mod rounds;
@@ -22,6 +23,7 @@ use durkenzo::Stand;
 use durkenzo_store::Revision;
 use lease_reads::LeaseReads;
 pub(crate) use lister::Lister;
+use preparation::Preparation;
 use replica_state::{ReplicaState, Revisions, TransactionPayload};
 use std::collections::{BTreeMap, BTreeSet, VecDeque};
 use std::sync::Arc;
@@ -49,6 +51,7 @@ pub(crate) struct Shard {
     /// The records by which its owner was seen to be the owner.
     ownership: Ownership,
     replicas: BTreeMap<u16, ReplicaState>,
+    preparation: Preparation,
     /// The store's message when a server last read the shard, if the store gave nothing.
     unanswered: Option<String>,
     /// The servers that no request reaches.
@@ -110,6 +113,7 @@ impl Shard {
             stored: StoredRecord::vacant(),
             ownership: Ownership::default(),
             replicas: BTreeMap::new(),
+            preparation: Preparation::default(),
             unanswered: None,
             away: BTreeSet::new(),
             runs: VecDeque::new(),
@@ -288,24 +292,8 @@ impl Shard {
         }
         self.store(stored);
         self.follow_record();
-        self.read_ahead(now, actions);
+        self.prepare(now, actions);
         self.go_on(now, actions);
-    }
-
-    /// Makes this process's server read the shard if the server is the next owner, before anybody asks it. So when it
-    /// executes, it lacks only the batches that were written since.
-    fn read_ahead(&mut self, now: Instant, actions: &mut Vec<Action>) {
-        let stand = self.stored.record().map(|it| it.stand);
-        let next = match stand {
-            Some(Stand::Prepared { next, .. } | Stand::Forwarding { next, .. }) => Some(next),
-            Some(Stand::Vacant | Stand::Serving(_) | Stand::Taken { .. } | Stand::Paused(_)) => {
-                None
-            }
-            None => None,
-        };
-        if let Some(server) = next.filter(|it| self.me() == Some(*it) && self.is_reached(*it)) {
-            self.ready_core(server, now, actions);
-        }
     }
 
     /// Makes each ready server use the last record, and drops those that it doesn't name.
@@ -371,6 +359,7 @@ impl Shard {
         }
         match read {
             Ok(read) => {
+                self.preparation.note_read(now);
                 self.make_ready(server, read);
                 if std::mem::take(&mut self.base_demand.is_wanted) {
                     self.want_base(self.base_demand.is_alone, now, actions);
@@ -380,7 +369,7 @@ impl Shard {
                 self.on_unread(server, kept, fault, (now, actions));
             }
         }
-        self.read_ahead(now, actions);
+        self.prepare(now, actions);
         self.go_on(now, actions);
     }
 
@@ -393,10 +382,13 @@ impl Shard {
         (now, actions): (Instant, &mut Vec<Action>),
     ) {
         match fault {
-            RecoveryFault::Later | RecoveryFault::Unanswered(_) => {
-                if let RecoveryFault::Unanswered(told) = fault {
-                    self.unanswered = Some(told);
-                }
+            RecoveryFault::Later => {
+                self.preparation.note_fault();
+                let again = ReplicaState::later(kept, now + READ_AGAIN);
+                self.replicas.insert(server, again);
+            }
+            RecoveryFault::Unanswered(told) => {
+                self.unanswered = Some(told);
                 let again = ReplicaState::later(kept, now + READ_AGAIN);
                 self.replicas.insert(server, again);
             }
@@ -411,6 +403,7 @@ impl Shard {
                 // The next owner reads ahead. It doesn't read all of a damaged log again at once.
                 let again = ReplicaState::later(None, now + READ_AGAIN);
                 self.replicas.insert(server, again);
+                self.tell_prepared(actions);
                 self.give_up(&NotDone::Damaged(why), actions);
             }
         }
@@ -479,10 +472,10 @@ impl Shard {
     }
 
     /// Returns whether something waits that a later tick may go on with or refuse, depending on whether the store is
-    /// full.
+    /// full; or whether the server of this process is the next owner, which may have to read again.
     pub(crate) fn has_waiting(&self, is_full: bool) -> bool {
         let is_idle = self.runs.is_empty() && self.decided.is_empty() && self.round.is_none();
-        !is_idle || self.is_base_due(is_full)
+        !is_idle || self.is_next_here() || self.is_base_due(is_full)
     }
 
     /// Returns why no server executes.
