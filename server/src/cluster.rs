@@ -10,6 +10,7 @@ use crate::presence::Presence;
 use crate::stats::ChangesMade;
 use crate::storage::{InMemory, Storage};
 use durkenzo_control::control::Progress;
+use durkenzo_driver::Clock;
 use std::fmt;
 use std::sync::atomic::{AtomicBool, AtomicU64, Ordering};
 use std::sync::{Arc, OnceLock};
@@ -33,6 +34,7 @@ pub struct Cluster {
     pub storage: Storage,
     /// When the server started.
     pub started: Instant,
+    clock: Clock,
     inlets: OnceLock<Box<[Arc<Inlet>]>>,
     changes: AtomicU64,
     leaves: AtomicBool,
@@ -46,6 +48,11 @@ pub struct Cluster {
 impl Cluster {
     /// Makes a cluster whose data lies there.
     pub fn new(configuration: Configuration, storage: Storage) -> Cluster {
+        Cluster::by(configuration, storage, Clock::default())
+    }
+
+    /// Makes the same by this clock.
+    pub fn by(configuration: Configuration, storage: Storage, clock: Clock) -> Cluster {
         let cursors = match &storage {
             Storage::Memory(_) | Storage::Folder(_) => Cursors::default(),
             Storage::Etcd(_) => Cursors::among_others(),
@@ -57,7 +64,8 @@ impl Cluster {
             guesses: Guesses::default(),
             cursors,
             storage,
-            started: Instant::now(),
+            started: clock.now(),
+            clock,
             inlets: OnceLock::new(),
             changes: AtomicU64::new(0),
             leaves: AtomicBool::new(false),
@@ -110,6 +118,11 @@ impl Cluster {
             (Ok(_), None) => {}
             (Err(fault), _) => tracing::warn!(%fault, "the settings in force aren't read"),
         }
+    }
+
+    /// Returns this moment by the clock of the process.
+    pub fn now(&self) -> Instant {
+        self.clock.now()
     }
 
     /// Returns the number of shards.

@@ -41,34 +41,37 @@ struct Wrong {
 }
 
 impl Wrong {
-    fn is_forgotten(&self) -> bool {
-        self.last.elapsed() >= FORGOTTEN
+    fn is_forgotten(&self, now: Instant) -> bool {
+        now.saturating_duration_since(self.last) >= FORGOTTEN
     }
 }
 
 impl Guesses {
     /// Returns how long a guess from this origin waits before it is checked, on a connection that has given so many
     /// wrong ones.
-    pub fn wait(&self, origin: ClientOrigin, of_connection: u32) -> Duration {
+    pub fn wait(&self, origin: ClientOrigin, of_connection: u32, now: Instant) -> Duration {
         let wrong = self.wrong.lock().unwrap_or_else(PoisonError::into_inner);
-        let found = wrong.get(&origin).filter(|it| !it.is_forgotten());
+        let found = wrong.get(&origin).filter(|it| !it.is_forgotten(now));
         let of_origin = found.map_or(0, |it| it.count);
         wait_after(of_origin.max(of_connection))
     }
 
     /// Notes that a wrong password came from there. If too many origins are remembered, the oldest one is forgotten.
-    pub fn note_wrong(&self, origin: ClientOrigin) {
+    pub fn note_wrong(&self, origin: ClientOrigin, now: Instant) {
         let mut wrong = self.wrong.lock().unwrap_or_else(PoisonError::into_inner);
         if wrong.len() >= MOST && !wrong.contains_key(&origin) {
-            wrong.retain(|_, it| !it.is_forgotten());
+            wrong.retain(|_, it| !it.is_forgotten(now));
             let oldest = wrong.iter().min_by_key(|it| it.1.last).map(|it| *it.0);
             oldest
                 .filter(|_| wrong.len() >= MOST)
                 .map(|it| wrong.remove(&it));
         }
-        let last = Instant::now();
+        let last = now;
         let found = wrong.entry(origin).or_insert(Wrong { count: 0, last });
-        let before = if found.is_forgotten() { 0 } else { found.count };
+        let before = match found.is_forgotten(now) {
+            true => 0,
+            false => found.count,
+        };
         let count = before.saturating_add(1);
         *found = Wrong { count, last };
     }
@@ -93,16 +96,18 @@ mod tests {
     #[test]
     fn each_wrong_password_makes_the_next_guess_wait_longer() {
         let (guesses, here, there) = (Guesses::default(), origin("10.0.0.1"), origin("10.0.0.2"));
+        let now = Instant::now();
         let waits = (0..12).map(|_| {
-            guesses.note_wrong(here);
-            guesses.wait(here, 0).as_millis()
+            guesses.note_wrong(here, now);
+            guesses.wait(here, 0, now).as_millis()
         });
         let wanted = [0, 0, 10, 20, 40, 80, 160, 320, 640, 1_000, 1_000, 1_000];
         assert_eq!(waits.collect::<Vec<_>>(), wanted);
-        assert_eq!(guesses.wait(there, 2), Duration::ZERO);
-        assert_eq!(guesses.wait(there, 4), 2 * FIRST);
-        (0..200).for_each(|_| guesses.note_wrong(here));
-        assert_eq!(guesses.wait(here, u32::MAX), LONGEST);
+        assert_eq!(guesses.wait(there, 2, now), Duration::ZERO);
+        assert_eq!(guesses.wait(there, 4, now), 2 * FIRST);
+        (0..200).for_each(|_| guesses.note_wrong(here, now));
+        assert_eq!(guesses.wait(here, u32::MAX, now), LONGEST);
+        assert_eq!(guesses.wait(here, 0, now + FORGOTTEN), Duration::ZERO);
     }
 
     #[test]
@@ -116,7 +121,7 @@ mod tests {
     fn no_more_origins_are_known_than_there_is_room_for() {
         let guesses = Guesses::default();
         for number in 0..3 * MOST as u32 {
-            guesses.note_wrong(IpAddr::V4(number.into()).into());
+            guesses.note_wrong(IpAddr::V4(number.into()).into(), Instant::now());
         }
         assert_eq!(guesses.wrong.lock().unwrap().len(), MOST);
     }

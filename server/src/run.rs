@@ -209,7 +209,7 @@ fn workers(
         let admission = Admission::new(cluster.clone(), inlet.stats().clone())?;
         let keyspace = Keyspace::new(&cluster.configuration.rule)?;
         let executor = Executor::new(cluster.clone(), admission, keyspace);
-        let worker = Worker::new(cluster.clone(), inlet, poll, executor, control.clone());
+        let worker = Worker::new(cluster.clone(), inlet, poll, executor, control.clone())?;
         let run = move || worker.run().map_err(Into::into);
         threads.push(spawn(cluster, &format!("clients-{number}"), run)?);
     }

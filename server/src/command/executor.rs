@@ -20,6 +20,7 @@ use crate::resp::{number, Arguments, Command, Oversized, OwnedCommand, Replies, 
 use crate::wait::{NotAdmitted, Wait};
 use std::ops::ControlFlow::{self, Break, Continue};
 use std::sync::Arc;
+use std::time::Instant;
 
 /// After this many bytes that are written and not sent, no further command is done.
 const MOST_UNSENT: usize = 1 << 20;
@@ -51,6 +52,11 @@ impl Executor {
             arguments: Arguments::default(),
             is_durable,
         }
+    }
+
+    /// Returns this moment by the clock of the process.
+    pub fn now(&self) -> Instant {
+        self.cluster.now()
     }
 
     /// Returns the thread's admission.
@@ -380,7 +386,7 @@ impl Executor {
         if !talk::gives_password(word, command) || session.may_guess {
             return Ok(());
         }
-        let wait = session.wait_of_guess(&self.cluster.guesses);
+        let wait = session.wait_of_guess(&self.cluster.guesses, self.now());
         session.may_guess = wait.is_zero();
         match session.may_guess {
             true => Ok(()),

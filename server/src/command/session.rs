@@ -7,7 +7,7 @@ use crate::guesses::{ClientOrigin, Guesses};
 use crate::resp::{Command, Replies};
 use crate::safety::Safety;
 use std::net::{Ipv4Addr, SocketAddr};
-use std::time::Duration;
+use std::time::{Duration, Instant};
 
 /// The most bytes that a client without a password may have in a command, and the most unsent bytes of its answers
 /// before no further command is done.
@@ -85,15 +85,15 @@ impl Session {
     }
 
     /// Returns for how long its next password isn't checked.
-    pub(super) fn wait_of_guess(&self, guesses: &Guesses) -> Duration {
+    pub(super) fn wait_of_guess(&self, guesses: &Guesses, now: Instant) -> Duration {
         let origin = ClientOrigin::from(self.address.ip());
-        guesses.wait(origin, self.wrong_guesses)
+        guesses.wait(origin, self.wrong_guesses, now)
     }
 
     /// Notes that it gave a wrong password.
-    pub(super) fn note_wrong_guess(&mut self, guesses: &Guesses) {
+    pub(super) fn note_wrong_guess(&mut self, guesses: &Guesses, now: Instant) {
         self.wrong_guesses = self.wrong_guesses.saturating_add(1);
-        guesses.note_wrong(self.address.ip().into());
+        guesses.note_wrong(self.address.ip().into(), now);
     }
 
     /// Returns the cursors that it was given last.

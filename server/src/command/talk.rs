@@ -118,13 +118,14 @@ fn let_in(
 ) -> Result<(), Fault> {
     let (safety, guesses) = (&cluster.configuration.safety, &cluster.guesses);
     // Only a command outside of a transaction can be put off.
-    if !std::mem::take(&mut session.may_guess) && !session.wait_of_guess(guesses).is_zero() {
+    let (may_guess, now) = (std::mem::take(&mut session.may_guess), cluster.now());
+    if !may_guess && !session.wait_of_guess(guesses, now).is_zero() {
         return Err(Fault::TooSoon);
     }
     // A client that was logged in before stays so, in its old role.
     let role = Role::named(user).filter(|it| it.is_opened_by(password, safety));
     let Some(role) = role else {
-        session.note_wrong_guess(guesses);
+        session.note_wrong_guess(guesses, now);
         return Err(Fault::WrongPassword);
     };
     if !session.is_known && cluster.known_clients() >= cluster.configuration.most_clients {

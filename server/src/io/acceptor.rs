@@ -138,7 +138,7 @@ impl Acceptor {
             }
             return;
         }
-        if let Some(mut first) = inlet.bring(socket, from) {
+        if let Some(mut first) = inlet.bring(socket, from, self.cluster.now()) {
             first.refuse();
         }
     }

@@ -1,12 +1,12 @@
 use super::arrived::Arrived;
 use super::caller::Caller;
+use super::readiness::Readiness;
 use super::stream::Stream;
 use crate::command::{Executor, Session, ShardRequest, Stop, MOST_OF_A_STRANGER};
 use crate::memory::{self, NoRoom, CEILING};
 use crate::resp::{Oversized, OwnedCommand, ReadAway, Replies};
 use crate::stats::ErrorCounts;
 use crate::wait::Wait;
-use mio::event::Event;
 use std::io::{self, ErrorKind};
 use std::iter;
 use std::sync::Arc;
@@ -132,12 +132,12 @@ impl Connection {
         self.session.is_known && self.stranger_since.take().is_some()
     }
 
-    /// Notes an event of the socket, and returns whether a turn is due. While the next command waits or is owed an
+    /// Notes an event of the stream, and returns whether a turn is due. While the next command waits or is owed an
     /// answer, no turn is due, and the socket takes earlier answers.
-    pub(super) fn note(&mut self, event: &Event, executor: &mut Executor) -> bool {
-        self.has_left |= event.is_write_closed() || event.is_error();
-        self.is_half_closed |= event.is_read_closed() || self.has_left;
-        self.is_readable |= event.is_readable() || self.is_half_closed;
+    pub(super) fn note(&mut self, ready: Readiness, executor: &mut Executor) -> bool {
+        self.has_left |= ready.has_left;
+        self.is_half_closed |= ready.is_half_closed;
+        self.is_readable |= ready.is_readable || self.is_half_closed;
         let is_due = self.is_readable || !self.is_sent();
         if self.is_held() && is_due {
             // If this fails, it fails again in the next turn.
@@ -174,22 +174,29 @@ impl Connection {
 
     /// Takes the answer that was owed, and returns for how long. If there is no memory for it beside others, the
     /// connection ends.
-    pub(super) fn take_answer(&mut self, bytes: Vec<u8>) -> Duration {
+    pub(super) fn take_answer(&mut self, bytes: Vec<u8>, now: Instant) -> Duration {
         self.replies.append_owned(bytes);
         self.is_last |= self.replies.are_whole().is_err();
         self.owed_since
             .take()
-            .map_or(Duration::ZERO, |it| it.elapsed())
+            .map_or(Duration::ZERO, |it| now.saturating_duration_since(it))
     }
 
     /// Returns whether its command has waited for so long.
-    pub(super) fn has_waited(&self, wait: Duration) -> bool {
-        self.waits_since.is_some_and(|it| it.elapsed() >= wait)
+    pub(super) fn has_waited(&self, wait: Duration, now: Instant) -> bool {
+        self.waits_since
+            .is_some_and(|it| now.saturating_duration_since(it) >= wait)
     }
 
     /// Returns whether no answer to it is outstanding.
     pub(super) fn is_quiet(&self) -> bool {
         !self.is_readable && !self.is_held() && self.is_sent()
+    }
+
+    /// Returns how many bytes of its answers the socket hasn't taken.
+    #[cfg(feature = "simulated")]
+    pub(super) fn unsent(&self) -> usize {
+        self.replies.unsent().len()
     }
 
     /// Returns whether the socket has taken all answers.
@@ -278,16 +285,16 @@ impl Connection {
                 Turn::Again
             }
             Stop::Control(command) => {
-                self.owed_since = Some(Instant::now());
+                self.owed_since = Some(executor.now());
                 Turn::Control(command)
             }
             Stop::Durable(asked) => {
-                self.owed_since = Some(Instant::now());
+                self.owed_since = Some(executor.now());
                 Turn::Durable(asked)
             }
             Stop::PutOff(wait) => {
                 self.is_put_off = true;
-                Turn::PutOff(Instant::now() + wait)
+                Turn::PutOff(executor.now() + wait)
             }
             Stop::Wait(reason) => self.wait(reason, waits_since, executor, wait),
         }
@@ -322,8 +329,9 @@ impl Connection {
         if since.is_none() && !matches!(reason, Wait::Busy(_)) {
             executor.admission().stats().waited.add(1);
         }
-        let since = since.unwrap_or_else(Instant::now);
-        if since.elapsed() >= most {
+        let now = executor.now();
+        let since = since.unwrap_or(now);
+        if now.saturating_duration_since(since) >= most {
             self.refuse(reason, executor);
             return Turn::Again;
         }

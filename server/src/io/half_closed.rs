@@ -1,4 +1,4 @@
-use std::collections::HashMap;
+use std::collections::BTreeMap;
 use std::time::{Duration, Instant};
 
 /// The most connections of all threads that wait for an answer although their clients send no more.
@@ -13,7 +13,7 @@ const WAIT: Duration = Duration::from_secs(1);
 pub(super) struct HalfClosed {
     most: usize,
     /// Until when each connection waits, and its place, by its number.
-    waiting: HashMap<u64, (Instant, usize)>,
+    waiting: BTreeMap<u64, (Instant, usize)>,
 }
 
 impl HalfClosed {
@@ -21,7 +21,7 @@ impl HalfClosed {
     pub(super) fn new(threads: usize) -> HalfClosed {
         HalfClosed {
             most: (MOST / threads.max(1)).max(1),
-            waiting: HashMap::new(),
+            waiting: BTreeMap::new(),
         }
     }
 
@@ -39,12 +39,18 @@ impl HalfClosed {
         self.waiting.remove(&id);
     }
 
+    /// Returns how many connections wait.
+    #[cfg(feature = "simulated")]
+    pub(super) fn len(&self) -> usize {
+        self.waiting.len()
+    }
+
     /// Returns when the next connection will have waited long enough, if one waits.
     pub(super) fn next_end(&self) -> Option<Instant> {
         self.waiting.values().map(|it| it.0).min()
     }
 
-    /// Returns the places of the connections that have waited long enough.
+    /// Returns the places of the connections that have waited long enough, in the order in which they came.
     pub(super) fn due(&self, now: Instant) -> Vec<usize> {
         let due = self.waiting.values().filter(|it| it.0 <= now);
         due.map(|it| it.1).collect()

@@ -23,13 +23,16 @@ const MOST_WAITING: usize = 256;
 /// The most connections that are brought to a thread before it looks, if clients needn't log in.
 const MOST_BROUGHT: usize = 32;
 
+/// Wakes the thread.
+type Wake = Box<dyn Fn() + Send + Sync>;
+
 /// The number of the last connection.
 static LAST_ID: AtomicU64 = AtomicU64::new(0);
 
 /// The inlet through which other threads reach a thread.
 pub struct Inlet {
     brought: Mutex<Brought>,
-    waker: Waker,
+    wake: Wake,
     stats: Arc<Stats>,
     version: AtomicU64,
     turns: AtomicU64,
@@ -70,10 +73,20 @@ pub(super) struct Delivery {
 
 impl Inlet {
     /// Makes the inlet of the thread with this poll.
+    ///
+    /// # Errors
+    ///
+    /// If the system refuses that.
     pub fn new(poll: &Poll, servers: u16) -> io::Result<Inlet> {
-        Ok(Inlet {
+        let waker = Waker::new(poll.registry(), WAKE)?;
+        Ok(Inlet::by(Box::new(move || wake(&waker)), servers))
+    }
+
+    /// Makes the inlet of a thread that this function wakes.
+    pub fn by(wake: Wake, servers: u16) -> Inlet {
+        Inlet {
             brought: Mutex::default(),
-            waker: Waker::new(poll.registry(), WAKE)?,
+            wake,
             stats: Arc::new(Stats::new(servers)),
             version: AtomicU64::new(0),
             turns: AtomicU64::new(0),
@@ -81,7 +94,7 @@ impl Inlet {
             met: Mutex::default(),
             most_strangers: None,
             door: OnceLock::new(),
-        })
+        }
     }
 
     /// Returns the inlet, of a thread that has at most so many strangers if there is a bound.
@@ -106,29 +119,55 @@ impl Inlet {
         Some(self.most_strangers?.saturating_sub(kept).max(1))
     }
 
-    /// Gives the thread a connection from this address, which is a stranger's at first. If clients speak TLS, the
-    /// handshake comes first. If too many wait, returns the one that gives way. Before a handshake it returns none,
-    /// because nothing can be told to such a client.
-    pub(super) fn bring(&self, socket: TcpStream, from: SocketAddr) -> Option<Stream> {
+    /// Gives the thread a connection that came then from this address, and that is a stranger's at first. If clients
+    /// speak TLS, the handshake comes first. If too many wait, returns the one that gives way. Before a handshake it
+    /// returns none, because nothing can be told to such a client.
+    pub(super) fn bring(
+        &self,
+        socket: TcpStream,
+        from: SocketAddr,
+        since: Instant,
+    ) -> Option<Stream> {
+        let Some(door) = self.door.get() else {
+            return self.bring_met(Stream::Plain(socket), from, since);
+        };
+        let newcomer = self.newcomer(socket, from, since);
+        let first = door.bring(newcomer, self.most_waiting())?;
+        self.note_lost(first.id);
+        None
+    }
+
+    /// Gives the thread a connection that needs no handshake. If too many wait, returns the one that gives way.
+    fn bring_met(&self, stream: Stream, from: SocketAddr, since: Instant) -> Option<Stream> {
+        let (newcomer, most) = (self.newcomer(stream, from, since), self.most_waiting());
+        let first = self.change(|it| newcomer.wait_in(&mut it.streams, most))?;
+        self.note_lost(first.id);
+        Some(first.stream)
+    }
+
+    /// Counts a connection as a stranger's, and gives it a number.
+    fn newcomer<S>(&self, stream: S, from: SocketAddr, since: Instant) -> Arrived<S> {
         self.stats.open.note_more();
         self.strangers.fetch_add(1, Ordering::Relaxed);
-        let newcomer = Arrived {
-            stream: socket,
+        Arrived {
+            stream,
             from,
-            since: Instant::now(),
+            since,
             id: LAST_ID.fetch_add(1, Ordering::Relaxed) + 1,
-        };
-        let most = self.most_waiting();
-        let first = match self.door.get() {
-            Some(door) => door.bring(newcomer, most).map(|it| it.by(|_| None)),
-            None => {
-                let newcomer = newcomer.by(Stream::Plain);
-                let first = self.change(|it| newcomer.wait_in(&mut it.streams, most));
-                first.map(|it| it.by(Some))
-            }
-        }?;
-        self.note_lost(first.id);
-        first.stream
+        }
+    }
+
+    /// Gives the thread a simulated connection. If another one gives way, tells its client so.
+    #[cfg(feature = "simulated")]
+    pub fn bring_simulated(
+        &self,
+        stream: Box<dyn super::ClientStream>,
+        from: SocketAddr,
+        since: Instant,
+    ) {
+        if let Some(mut first) = self.bring_met(Stream::Simulated(stream), from, since) {
+            first.refuse();
+        }
     }
 
     /// Returns whether the thread must first look at the connections that it was given, before more are accepted.
@@ -219,7 +258,7 @@ impl Inlet {
 
     /// Wakes the thread, so that it looks at what others brought or changed.
     pub fn wake(&self) {
-        wake(&self.waker);
+        (self.wake)();
     }
 
     /// Does the same at a stop, which its handshake thread must see, too.
@@ -339,7 +378,9 @@ mod tests {
             clients.push(Client::connect(listener.local_addr().unwrap()).unwrap());
             let (socket, from) = listener.accept().unwrap();
             // Before its handshake, a client can't be told anything.
-            assert!(inlet.bring(TcpStream::from_std(socket), from).is_none());
+            assert!(inlet
+                .bring(TcpStream::from_std(socket), from, Instant::now())
+                .is_none());
             if let Some(newcomer) = inlet.take_newcomer() {
                 gone.extend(inlet.give_way());
                 inlet.note_met(newcomer.id, Whereabouts::Connection(place));

@@ -4,12 +4,21 @@ mod acceptor;
 mod arrived;
 mod busy_poll;
 mod caller;
+#[cfg(feature = "simulated")]
+mod client_stream;
+mod clients;
 mod connection;
 mod door;
 mod half_closed;
 mod handshaker;
+#[cfg(feature = "simulated")]
+mod held_for_clients;
 mod inlet;
+mod patience;
+mod put_off;
+mod readiness;
 mod reply_address;
+mod sockets;
 mod strangers;
 mod stream;
 mod tls_stream;
@@ -17,7 +26,14 @@ mod worker;
 
 pub use acceptor::Acceptor;
 pub use caller::Caller;
+#[cfg(feature = "simulated")]
+pub use client_stream::ClientStream;
+pub use clients::Clients;
 pub use handshaker::Handshaker;
+#[cfg(feature = "simulated")]
+pub use held_for_clients::HeldForClients;
 pub use inlet::Inlet;
+pub use patience::Patience;
+pub use readiness::Readiness;
 pub use reply_address::ReplyAddress;
 pub use worker::Worker;

@@ -1,3 +1,5 @@
+#[cfg(feature = "simulated")]
+use super::client_stream::ClientStream;
 use super::tls_stream::TlsStream;
 use mio::net::TcpStream;
 use std::io::{self, Read, Write};
@@ -10,13 +12,19 @@ const FULL: &[u8] = b"-ERR max number of clients reached\r\n";
 pub(super) enum Stream {
     Plain(TcpStream),
     Tls(Box<TlsStream>),
+    /// A stream without a socket.
+    #[cfg(feature = "simulated")]
+    Simulated(Box<dyn ClientStream>),
 }
 
 impl Stream {
-    pub(super) fn socket(&mut self) -> &mut TcpStream {
+    /// Returns its socket, if it has one.
+    pub(super) fn socket(&mut self) -> Option<&mut TcpStream> {
         match self {
-            Stream::Plain(socket) => socket,
-            Stream::Tls(tls) => tls.socket(),
+            Stream::Plain(socket) => Some(socket),
+            Stream::Tls(tls) => Some(tls.socket()),
+            #[cfg(feature = "simulated")]
+            Stream::Simulated(_) => None,
         }
     }
 
@@ -46,6 +54,8 @@ impl Stream {
         match self {
             // A short read took all that was there.
             Stream::Plain(_) => count == room,
+            #[cfg(feature = "simulated")]
+            Stream::Simulated(_) => count == room,
             Stream::Tls(tls) => count == room || tls.may_have_more(),
         }
     }
@@ -54,6 +64,8 @@ impl Stream {
     pub(super) fn read(&mut self, buffer: &mut [u8]) -> io::Result<usize> {
         match self {
             Stream::Plain(socket) => socket.read(buffer),
+            #[cfg(feature = "simulated")]
+            Stream::Simulated(stream) => stream.read(buffer),
             Stream::Tls(tls) => tls.read(buffer),
         }
     }
@@ -62,6 +74,8 @@ impl Stream {
     pub(super) fn write(&mut self, bytes: &[u8]) -> io::Result<usize> {
         match self {
             Stream::Plain(socket) => socket.write(bytes),
+            #[cfg(feature = "simulated")]
+            Stream::Simulated(stream) => stream.write(bytes),
             Stream::Tls(tls) => tls.write(bytes),
         }
     }
@@ -70,6 +84,8 @@ impl Stream {
     pub(super) fn flush(&mut self) -> io::Result<()> {
         match self {
             Stream::Plain(_) => Ok(()),
+            #[cfg(feature = "simulated")]
+            Stream::Simulated(_) => Ok(()),
             Stream::Tls(tls) => tls.flush(),
         }
     }

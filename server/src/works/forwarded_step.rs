@@ -6,7 +6,7 @@ use durkenzo_control::links::{ForwardedMessage, ForwardedRequest, Reason, ReplyS
 use durkenzo_driver::{Begin, NotDone, WorkStep};
 
 /// A client's step that another process executes.
-pub(super) struct ForwardedStep(pub(super) WorkStep);
+pub struct ForwardedStep(pub(super) WorkStep);
 
 impl ForwardedRequest for ForwardedStep {
     type Reason = WireReason;

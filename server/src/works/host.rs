@@ -13,7 +13,7 @@ use std::sync::{Arc, Mutex, MutexGuard, PoisonError, Weak};
 
 /// This server, as the links to other processes see it.
 #[derive(Clone)]
-pub(super) struct ServerHost {
+pub struct ServerHost {
     /// This process's server.
     pub(super) server: u16,
     pub(super) durable: Weak<Durable>,

@@ -10,6 +10,8 @@ mod step_destination;
 mod unsure_work;
 mod wire_reason;
 
+#[cfg(feature = "simulated")]
+pub use host::ServerHost;
 pub use peers::Peers;
 pub use wire_reason::WireReason;
 

@@ -4,7 +4,7 @@ use durkenzo_control::links::ForwardedCommand;
 use std::fmt;
 
 /// A command for the control of another process.
-pub(super) struct PeerCommand {
+pub struct PeerCommand {
     asked: Asked,
     /// The queue in which it waits again if it wasn't done.
     again: Option<Again>,

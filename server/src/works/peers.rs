@@ -88,15 +88,25 @@ impl Peers {
         cluster: &Arc<Cluster>,
         control: SyncSender<Asked>,
     ) -> io::Result<JoinHandle<()>> {
+        let host = self.host(durable, cluster, control);
+        let servers = cluster.presence.servers();
+        self.links.begin(listener, servers, host)
+    }
+
+    /// Gives other processes' commands to this control, and returns the host that answers them.
+    fn host(
+        &self,
+        durable: &Arc<Durable>,
+        cluster: &Arc<Cluster>,
+        control: SyncSender<Asked>,
+    ) -> ServerHost {
         self.control.set(Some(control));
-        let host = ServerHost {
+        ServerHost {
             server: self.member().server(),
             durable: Arc::downgrade(durable),
             cluster: Arc::downgrade(cluster),
             control: self.control.clone(),
-        };
-        let servers = cluster.presence.servers();
-        self.links.begin(listener, servers, host)
+        }
     }
 
     /// Asks the other processes that are there whether they accept this one, which must answer them by now.
@@ -124,6 +134,30 @@ impl Peers {
     pub fn leave(&self) {
         self.leave_control();
         self.links.leave();
+    }
+}
+
+/// The functions of a simulation, which has no threads and no sockets.
+#[cfg(feature = "simulated")]
+impl Peers {
+    /// Makes the peers over these links, whose bytes the caller moves.
+    pub fn simulated(links: Links<ServerHost>) -> Peers {
+        Peers {
+            links,
+            control: ControlInlet::default(),
+        }
+    }
+
+    /// Begins as [`Peers::begin`] does. The caller accepts the connections.
+    pub fn begin_without_threads(
+        &self,
+        durable: &Arc<Durable>,
+        cluster: &Arc<Cluster>,
+        control: SyncSender<Asked>,
+    ) {
+        let host = self.host(durable, cluster, control);
+        let servers = cluster.presence.servers();
+        self.links.begin_without_threads(servers, host);
     }
 }
 

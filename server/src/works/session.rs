@@ -17,7 +17,7 @@ use std::io;
 use std::sync::Arc;
 
 /// The session of one process that has connected.
-pub(super) struct WorkSession {
+pub struct WorkSession {
     host: ServerHost,
     keyspace: Keyspace,
     /// The process's identity.

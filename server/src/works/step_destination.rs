@@ -4,7 +4,7 @@ use std::time::Instant;
 
 /// The address of steps from the driver.
 #[derive(Clone)]
-pub(super) struct StepDestination(pub(super) Elsewhere);
+pub struct StepDestination(pub(super) Elsewhere);
 
 impl Destination for StepDestination {
     fn shard(&self) -> u16 {
