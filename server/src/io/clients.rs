@@ -36,6 +36,8 @@ pub struct Clients {
     executor: Executor,
     control: SyncSender<Asked>,
     connections: Slab<Connection>,
+    /// The places of connections that began in this round.
+    begun: Vec<usize>,
     /// Connections that have a turn in the next round.
     queue: Vec<usize>,
     /// Connections whose next command waits for a shard that no server executes.
@@ -72,6 +74,7 @@ impl Clients {
             executor,
             control,
             connections: Slab::new(),
+            begun: Vec::new(),
             queue: Vec::new(),
             waiting: Vec::new(),
             put_off: PutOff::default(),
@@ -110,11 +113,16 @@ impl Clients {
 
     /// Begins a round. Its events are noted next.
     pub fn begin_round(&mut self) {
+        self.begun.clear();
         self.inlet.note_turn();
     }
 
     /// Notes an event of the stream at this place.
     pub fn note(&mut self, place: usize, ready: Readiness) {
+        // All events of a round are there before it begins, so this one is of a connection that has ended.
+        if self.begun.contains(&place) {
+            return;
+        }
         let Some(connection) = self.connections.get_mut(place) else {
             return;
         };
@@ -226,6 +234,7 @@ impl Clients {
         let is_known = connection.stranger_since().is_none();
         let is_readable = connection.is_readable();
         self.connections.insert(connection);
+        self.begun.push(place);
         self.inlet.stats().accepted.add(1);
         if is_known {
             self.inlet.note_stranger_less(id);
@@ -503,5 +512,66 @@ impl Clients {
             half_closed: self.half_closed.len(),
             most_unsent: connections.map(Connection::unsent).max().unwrap_or(0),
         }
+    }
+}
+
+#[cfg(test)]
+mod tests {
+    use super::super::sockets::PolledSockets;
+    use super::*;
+    use crate::admission::Admission;
+    use crate::configuration::Configuration;
+    use crate::keyspace::{Keyspace, Rule};
+    use durkenzo_control::links::Secret;
+    use mio::net::TcpStream;
+    use mio::Poll;
+    use std::net::TcpListener;
+    use std::sync::mpsc::sync_channel;
+
+    /// Returns the connections of a thread to which clients must log in, and which has room for one that hasn't.
+    fn begun() -> Clients {
+        let rule = Rule::Hash(1);
+        let keyspace = Keyspace::new(&rule).unwrap();
+        let mut configuration = Configuration::new(rule);
+        configuration.safety.password = Secret::of(b"a password");
+        let cluster = Arc::new(Cluster::in_memory(configuration).unwrap());
+        let poll = Poll::new().unwrap();
+        let inlet = Inlet::new(&poll, 1).unwrap();
+        let inlet = Arc::new(inlet.with_most_strangers(Some(2)));
+        cluster.set_inlets([inlet.clone()].into());
+        let admission = Admission::new(cluster.clone(), inlet.stats().clone()).unwrap();
+        let executor = Executor::new(cluster.clone(), admission, keyspace);
+        let sockets = PolledSockets(poll.registry().try_clone().unwrap());
+        let control = sync_channel(1).0;
+        Clients::new(cluster, inlet, Box::new(sockets), executor, control)
+    }
+
+    #[test]
+    fn an_event_of_who_gave_way_is_not_that_of_the_next_one() {
+        let (mut clients, listener) = (begun(), TcpListener::bind("127.0.0.1:0").unwrap());
+        let address = listener.local_addr().unwrap();
+        let gone = Readiness {
+            is_readable: true,
+            is_half_closed: true,
+            has_left: true,
+        };
+        let mut others = Vec::new();
+        for _ in 0..2 {
+            others.push(std::net::TcpStream::connect(address).unwrap());
+            let (socket, from) = listener.accept().unwrap();
+            socket.set_nonblocking(true).unwrap();
+            let (socket, now) = (TcpStream::from_std(socket), clients.cluster.now());
+            assert!(clients.inlet.bring(socket, from, now).is_none());
+            clients.begin_round();
+            clients.take_brought();
+            // The first one has left, gives way in this round, and its event comes behind that.
+            clients.note(0, gone);
+            assert!(!clients.connections[0].has_left());
+            clients.end_round().unwrap();
+        }
+        assert_eq!(clients.connections.len(), 1);
+        clients.begin_round();
+        clients.note(0, gone);
+        assert!(clients.connections[0].has_left());
     }
 }
