@@ -7,7 +7,7 @@ use crate::command::transaction::MultiTransaction;
 use crate::command::Fault;
 use crate::resp::Replies;
 use durkenzo_driver::{Begin, Key, MapReply, MapRequest, NotDone, Work, WorkOutcome, WorkStep};
-use std::sync::Arc;
+use std::sync::{Arc, Weak};
 
 /// The most requests that a transaction's writes may be. A key takes one or two.
 const MOST_WRITES: usize = 2_048;
@@ -16,7 +16,8 @@ const MOST_WRITES: usize = 2_048;
 /// once.
 pub(super) struct StoredExec {
     transaction: Box<MultiTransaction>,
-    cluster: Arc<Cluster>,
+    /// The cluster, which has the shard that has this work.
+    cluster: Weak<Cluster>,
     shard: u16,
     keys: Vec<Key>,
     answer: Option<Replies>,
@@ -35,7 +36,7 @@ impl StoredExec {
         let begin = Begin::Change(keys.clone());
         let work = StoredExec {
             transaction,
-            cluster,
+            cluster: Arc::downgrade(&cluster),
             shard,
             keys,
             answer: None,
@@ -48,14 +49,16 @@ impl StoredExec {
     }
 
     fn requests(&self, held: &[MapReply], answer: &mut Replies) -> Result<Vec<MapRequest>, Fault> {
+        let stopped = Fault::NotDone(self.shard, NotDone::Stopped);
+        let cluster = self.cluster.upgrade().ok_or(stopped)?;
         let mut body = loaded(&self.keys, held)?;
         let mark = answer.mark();
         // A change must be answered truly, so there must be room for the answer.
         answer.keep_room(self.transaction.len() as usize)?;
         // A command that is queued over a store needs nothing of its connection.
         let mut session = Session::new(0, true);
-        let (transaction, cluster) = (&self.transaction, &self.cluster);
-        transaction.execute(Some(&mut body), &mut session, cluster, answer);
+        let transaction = &self.transaction;
+        transaction.execute(Some(&mut body), &mut session, &cluster, answer);
         let requests = changes(&mut body, &self.keys, held);
         if requests.len() > MOST_WRITES {
             answer.take_back(mark);
