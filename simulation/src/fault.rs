@@ -77,11 +77,17 @@ pub enum Fault {
     DiskFull,
     /// A machine loses power, so its disk loses the data that it wasn't told to keep.
     PowerLost,
+    /// The connection of a client to a server is reset.
+    ClientCut,
+    /// A client sends no more, whatever it still expects.
+    ClientEnds,
+    /// A client reads none of its answers for a while.
+    ClientStalls,
 }
 
 impl Fault {
     /// All kinds, in their order.
-    pub const ALL: [Fault; 37] = [
+    pub const ALL: [Fault; 40] = [
         Fault::MemberHangs,
         Fault::MemberGone,
         Fault::MemberLags,
@@ -119,6 +125,9 @@ impl Fault {
         Fault::DiskCallFails,
         Fault::DiskFull,
         Fault::PowerLost,
+        Fault::ClientCut,
+        Fault::ClientEnds,
+        Fault::ClientStalls,
     ];
 
     /// Returns the fault's name in timelines and counts.
@@ -161,6 +170,9 @@ impl Fault {
             Fault::DiskCallFails => "disk-call-fails",
             Fault::DiskFull => "disk-full",
             Fault::PowerLost => "power-lost",
+            Fault::ClientCut => "client-cut",
+            Fault::ClientEnds => "client-ends",
+            Fault::ClientStalls => "client-stalls",
         }
     }
 }

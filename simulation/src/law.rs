@@ -119,8 +119,11 @@ struct WorldModel {
     bodies: HashSet<Vec<u8>>,
 }
 
-/// Checks all transactions in their order, and then all claims.
-pub fn check(made: &[(u64, Transaction)], claims: &[Claim]) -> Result<(), Broken> {
+/// Checks all transactions in their order, and then all claims. Returns the map of each shard in the end.
+pub fn check(
+    made: &[(u64, Transaction)],
+    claims: &[Claim],
+) -> Result<HashMap<u16, MapModel>, Broken> {
     let mut world = WorldModel::default();
     for (revision, transaction) in made {
         let Some(written) = Written::of(transaction) else {
@@ -128,7 +131,9 @@ pub fn check(made: &[(u64, Transaction)], claims: &[Claim]) -> Result<(), Broken
         };
         world.make(*revision, &written)?;
     }
-    claims.iter().try_for_each(|it| world.judge(it))
+    claims.iter().try_for_each(|it| world.judge(it))?;
+    let maps = world.shards.into_iter();
+    Ok(maps.map(|(shard, it)| (shard, it.now.map)).collect())
 }
 
 impl WorldModel {

@@ -48,6 +48,7 @@ pub mod picture;
 pub mod plan;
 mod process;
 pub mod reading;
+mod server;
 pub mod shrink;
 mod simulated_host;
 mod simulated_peers;

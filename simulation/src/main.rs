@@ -132,8 +132,8 @@ fn main() -> ExitCode {
     }
 }
 
-/// Runs one schedule and draws it. If it breaks a law, the picture says so. Only the parts `processes` and `fleet` have
-/// pictures.
+/// Runs one schedule and draws it. If it breaks a law, the picture says so. Only the parts `processes`,
+/// `fleet` and `server` have pictures.
 fn draw(plan: Plan) -> ExitCode {
     let part = plan.part;
     let ran = run_by(&Plan {

@@ -12,14 +12,22 @@ pub enum Part {
     Fleet,
     /// A store in a folder: SQLite over a disk that fails.
     Folder,
+    /// Processes and clients of a server, over the same store as `Processes`. The clients speak RESP.
+    Server,
 }
 
 impl Part {
     /// All parts, in their order.
-    pub const ALL: [Part; 4] = [Part::Processes, Part::EtcdClient, Part::Fleet, Part::Folder];
+    pub const ALL: [Part; 5] = [
+        Part::Processes,
+        Part::EtcdClient,
+        Part::Fleet,
+        Part::Folder,
+        Part::Server,
+    ];
 
     /// The parts that each seed runs if none is named. A fleet isn't among them, because its schedules take eight times
-    /// as long. A folder isn't among them either.
+    /// as long. A folder and a server aren't among them either.
     pub const USUAL: [Part; 2] = [Part::Processes, Part::EtcdClient];
 
     fn name(self) -> &'static str {
@@ -28,6 +36,7 @@ impl Part {
             Part::EtcdClient => "etcd-client",
             Part::Fleet => "fleet",
             Part::Folder => "folder",
+            Part::Server => "server",
         }
     }
 }

@@ -5,6 +5,7 @@ use crate::line::Line;
 use crate::links::{Inbox, LinkShape, LinkedHost};
 use crate::machine_clock::MachineClock;
 use crate::mail::{Mails, Message, Sender};
+use crate::server::{Serving, ServingShape};
 use crate::simulated_host::SimulatedHost;
 use crate::simulated_peers::SimulatedPeers;
 use crate::simulated_store::SharedStore;
@@ -31,6 +32,8 @@ pub struct Surroundings<'a> {
     pub links: Option<&'a LinkShape>,
     /// The shape of its fleet, if it belongs to one. Then its service executes by permits, and acks records itself.
     pub fleet: Option<&'a FleetShape>,
+    /// How it serves clients that speak RESP, if it does.
+    pub server: Option<&'a ServingShape>,
     pub bug: Option<Bug>,
 }
 
@@ -52,6 +55,8 @@ pub struct Process {
     bug: Option<Bug>,
     /// The process's part of a fleet, in schedules that have one.
     pub fleet: Option<RunningFleet>,
+    /// The part of the process that serves clients, in schedules that have such clients.
+    pub serving: Option<Serving>,
     /// Whether the process was asked to stop.
     pub is_stopping: Arc<AtomicBool>,
     /// The process does nothing before this time.
@@ -76,6 +81,8 @@ impl Process {
         let links = shape.map(|it| it.links(&member, around.clock));
         let sends = links.as_ref().zip(shape);
         let elsewhere = sends.map(|(links, shape)| shape.hand_over(links, sender));
+        let reaches = around.server.map(|it| it.reach(&member, around.clock));
+        let elsewhere = elsewhere.or_else(|| Some(reaches.as_ref()?.1.hand_over()));
         let (durable, chores) = Durable::open_without_threads(
             Arc::new(Line::of(shared, sender.place)),
             shards,
@@ -95,11 +102,14 @@ impl Process {
             shape.begin(links, SERVERS, &durable, &inbox);
         }
         let clock = around.clock.clone();
+        let serving = around.server.zip(reaches);
+        let serving = serving.map(|(shape, it)| shape.serve(it, &durable, &clock));
         let fleet = around.fleet;
         let fleet = fleet.map(|it| RunningFleet::start(it, sender, (&member, &durable), &clock));
         Ok(Process {
             sender,
             fleet,
+            serving,
             member,
             durable,
             chores,

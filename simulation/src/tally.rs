@@ -42,6 +42,8 @@ pub struct Tally {
     pub hopped: u64,
     pub unsure: u64,
     pub not_made: u64,
+    /// How many commands of a server's clients were made before an earlier one of their pipeline.
+    pub overtaken: u64,
     /// How many bodies moved to another process, and how many were lost with the processes that had them.
     pub handed: u64,
     pub bodies_lost: u64,
@@ -85,6 +87,7 @@ impl Tally {
         self.hopped += more.hopped;
         self.unsure += more.unsure;
         self.not_made += more.not_made;
+        self.overtaken += more.overtaken;
         self.handed += more.handed;
         self.bodies_lost += more.bodies_lost;
         self.frames += more.frames;
@@ -152,6 +155,7 @@ impl fmt::Display for Tally {
             ("hopped", self.hopped),
             ("unsure", self.unsure),
             ("not made", self.not_made),
+            ("overtaken", self.overtaken),
             ("handed", self.handed),
             ("bodies lost", self.bodies_lost),
             ("frames", self.frames),

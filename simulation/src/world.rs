@@ -4,6 +4,7 @@ mod fleets;
 mod members;
 mod network;
 mod rest;
+mod servers;
 mod shape;
 
 use crate::beginning::Beginning;
@@ -19,7 +20,7 @@ use crate::folder::run_folder_by;
 use crate::key::Written;
 use crate::law::{check, Broken};
 use crate::ledger::SharedLedger;
-use crate::links::{LinkShape, Parcels};
+use crate::links::{LinkShape, LinkedHost, Parcels};
 use crate::mail::{broken, visiting, Mails, Message, Sender, StepAnswer};
 use crate::network::SimulatedNetwork;
 use crate::part::Part;
@@ -35,6 +36,7 @@ use durkenzo_driver::{
     WorkStep,
 };
 use fleets::FleetOfWorld;
+use servers::ServerOfWorld;
 use shape::Shape;
 use std::sync::atomic::{AtomicBool, Ordering};
 use std::sync::{Arc, Mutex, MutexGuard, Weak};
@@ -77,7 +79,9 @@ pub struct World {
     store: SharedStore,
     mails: Mails,
     /// The network between the processes, if they have the links that ship.
-    network: Option<SimulatedNetwork>,
+    network: Option<SimulatedNetwork<LinkedHost>>,
+    /// The clients of the processes that speak RESP, in schedules that have them.
+    server: Option<ServerOfWorld>,
     parcels: Parcels,
     told: Claims,
     processes: Vec<Option<Process>>,
@@ -107,7 +111,7 @@ pub fn run(seed: u64, bug: Option<Bug>) -> (Tally, Result<(), Broken>) {
 /// Runs one schedule by a plan and checks it. Returns its results.
 pub fn run_by(plan: &Plan) -> Ran {
     match plan.part {
-        Part::Processes | Part::Fleet => run_processes_by(plan),
+        Part::Processes | Part::Fleet | Part::Server => run_processes_by(plan),
         Part::EtcdClient => run_clients_by(plan),
         Part::Folder => run_folder_by(plan),
     }
@@ -165,11 +169,13 @@ impl World {
         let store = SimulatedStore::new(of_store, plan.bug, time.clone(), noted);
         let noted = (faults.clone(), timeline.clone());
         let network = chance_of_links(plan)
-            .map(|it| SimulatedNetwork::new(it, time.clone(), plan.bug, noted));
+            .map(|it| SimulatedNetwork::new(it, time.clone(), plan.bug, noted.clone()));
         let shape = Shape::drawn(plan, &mut chance, (&time, network.is_some()));
+        let of_server = SimulatedNetwork::new(Chance::new(!plan.seed), time.clone(), None, noted);
         World {
             chance,
             fleet: shape.fleet(plan, &time, &timeline),
+            server: shape.server(plan, of_server),
             shape,
             ledger: SharedLedger::default(),
             bug: plan.bug,
@@ -204,9 +210,9 @@ impl World {
             Some(_) => (true, CONTROLLED_EVENTS),
             None => (false, EVENTS),
         };
-        let events = match self.network {
-            Some(_) => events.max(LINKED_EVENTS),
-            None => events,
+        let events = match (&self.network, &self.server) {
+            (Some(_), _) | (None, Some(_)) => events.max(LINKED_EVENTS),
+            (None, None) => events,
         };
         match is_controlled {
             true => self.begin_controls(),
@@ -240,13 +246,15 @@ impl World {
     /// Waits until all work is answered or refused. Nothing fails any more, so that must happen within some time.
     fn settle(&mut self) {
         self.store().is_calm = true;
-        let rounds = match (&self.network, &self.fleet) {
-            (Some(_), _) | (_, Some(_)) => LINKED_SETTLING,
-            (None, None) => SETTLING,
+        let has_links = self.network.is_some() || self.fleet.is_some() || self.server.is_some();
+        let rounds = match has_links {
+            true => LINKED_SETTLING,
+            false => SETTLING,
         };
         for _ in 0..rounds {
             self.asked.retain(|it| it.2.strong_count() > 0);
-            if self.asked.is_empty() && self.are_calls_told() {
+            let are_told = self.are_calls_told() && self.are_clients_told();
+            if self.asked.is_empty() && are_told {
                 return self.rest();
             }
             self.time.pass(PERIOD);
@@ -254,7 +262,7 @@ impl World {
         }
         self.fault.get_or_insert(Broken {
             law: "what is asked is answered or refused",
-            by: format!("{:?}", self.asked),
+            by: format!("{:?} {}", self.asked, self.shown_clients()),
         });
     }
 
@@ -270,6 +278,7 @@ impl World {
         }
         self.turn_beginnings();
         self.settle_fleets();
+        self.settle_servers();
         // The leases of crashed processes end, so others see that they are gone.
         self.lapse();
     }
@@ -298,6 +307,7 @@ impl World {
         self.judge_operators();
         self.judge_links();
         self.tally_fleet();
+        self.tally_clients();
         self.judge_late_commands();
         for place in 0..PROCESSES {
             self.crash_at(place);
@@ -315,6 +325,8 @@ impl World {
         // Drops the claims that aren't final, because the same request may be made at another process.
         told.retain(|it| it.is_final());
         let verdict = check(&store.made, &told);
+        let verdict = verdict.and_then(|it| servers::judge(self.server.as_ref(), &it));
+        let verdict = verdict.map(|it| self.tally.overtaken = it);
         (self.tally, self.fault.map_or(verdict, Err))
     }
 
@@ -491,6 +503,12 @@ impl World {
         self.timeline.note(process.column(), || GONE.to_owned());
         let life = process.sender.life;
         self.network.iter_mut().for_each(|it| it.forget(life));
+        self.server
+            .iter_mut()
+            .for_each(|it| it.network.forget(life));
+        if let Some(serving) = &process.serving {
+            self.tally.forwarded += serving.links.counts().came();
+        }
         if let Some(links) = &process.links {
             self.tally.forwarded += links.counts().came();
         }
@@ -779,13 +797,13 @@ impl World {
     }
 }
 
-/// Returns the random numbers of the network, if the processes have the links that ship. Those of a fleet have none.
+/// Returns the random numbers of the network, if the processes have the links that ship. Those of a fleet have none, and those of a server have their own.
 /// The numbers have a stream of their own, because the seeds of other schedules must stay as they were before there
 /// were links.
 fn chance_of_links(plan: &Plan) -> Option<Chance> {
     let mut chance = Chance::new(!plan.seed);
     let is_linked = match (plan.part, plan.bug) {
-        (Part::Fleet, _) => false,
+        (Part::Fleet | Part::Server, _) => false,
         (_, Some(bug)) => bug.is_of_links(),
         (_, None) => chance.is_true(1, 2),
     };

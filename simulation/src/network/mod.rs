@@ -9,12 +9,11 @@ use crate::bug::Bug;
 use crate::chance::Chance;
 use crate::fault::Fault;
 use crate::faults::Faults;
-use crate::links::LinkedHost;
 use crate::mail::Sender;
 use crate::time::Time;
 use crate::timeline::{Column, Timeline};
 use closer::SimulatedCloser;
-use durkenzo_control::links::{Connection, Dial, Links};
+use durkenzo_control::links::{Connection, Dial, Host, Links};
 use std::collections::{BTreeMap, BTreeSet};
 use std::io::{self, ErrorKind};
 use std::sync::Arc;
@@ -30,35 +29,35 @@ const HARM: u64 = 3_000;
 const PLACES: u64 = 4;
 
 /// One side of a connection: the process that has it, and the closer that ends it.
-struct Side {
+struct Side<H: Host> {
     sender: Sender,
-    connection: Connection<LinkedHost>,
+    connection: Connection<H>,
     closer: Arc<SimulatedCloser>,
 }
 
 /// A connection between two processes. The caller's side comes first, and then the called side.
-struct Connected {
+struct Connected<H: Host> {
     wire: Wire,
-    sides: [Option<Side>; 2],
+    sides: [Option<Side<H>>; 2],
 }
 
 /// An attempt of a process to reach another one.
-struct Dialling {
+struct Dialling<H: Host> {
     from: Sender,
-    dial: Dial<LinkedHost>,
+    dial: Dial<H>,
     /// The time at which the process gives up.
     until: Duration,
 }
 
-/// All connections of a schedule.
-pub struct SimulatedNetwork {
+/// All connections between processes of a schedule, whose links have this host.
+pub struct SimulatedNetwork<H: Host> {
     chance: Chance,
     time: Time,
     bug: Option<Bug>,
     faults: Faults,
     timeline: Timeline,
-    connected: Vec<Connected>,
-    dialling: Vec<Dialling>,
+    connected: Vec<Connected<H>>,
+    dialling: Vec<Dialling<H>>,
     /// For two places, the time until which the first doesn't reach the second.
     blocked: BTreeMap<(usize, usize), Duration>,
     /// The processes of the version before.
@@ -68,14 +67,14 @@ pub struct SimulatedNetwork {
     pub broken: u64,
 }
 
-impl SimulatedNetwork {
+impl<H: Host> SimulatedNetwork<H> {
     /// Returns a network without connections.
     pub fn new(
         chance: Chance,
         time: Time,
         bug: Option<Bug>,
         (faults, timeline): (Faults, Timeline),
-    ) -> SimulatedNetwork {
+    ) -> SimulatedNetwork<H> {
         SimulatedNetwork {
             chance,
             time,
@@ -97,7 +96,7 @@ impl SimulatedNetwork {
     }
 
     /// Begins the attempt of a process to reach another one.
-    pub fn dial(&mut self, from: Sender, dial: Dial<LinkedHost>) {
+    fn dial(&mut self, from: Sender, dial: Dial<H>) {
         match dial.address() {
             Ok(_) => self.dialling.push(Dialling {
                 from,
@@ -108,9 +107,18 @@ impl SimulatedNetwork {
         }
     }
 
+    /// Lets these processes try to reach those that their links need, and connects them.
+    pub fn reach_all(&mut self, there: &[(Sender, &Links<H>)], is_calm: bool) {
+        for (sender, links) in there {
+            let dials = links.dials().into_iter();
+            dials.for_each(|it| self.dial(*sender, it));
+        }
+        self.reach(there, is_calm);
+    }
+
     /// Connects processes with those that they try to reach. Some attempts fail by chance, but if all is calm, each
     /// process that is there is reached.
-    pub fn reach(&mut self, there: &[(Sender, &Links<LinkedHost>)], is_calm: bool) {
+    fn reach(&mut self, there: &[(Sender, &Links<H>)], is_calm: bool) {
         for dialling in std::mem::take(&mut self.dialling) {
             let Dialling { from, dial, until } = dialling;
             let to = dial.address().ok().and_then(|it| it.parse().ok());
@@ -129,13 +137,7 @@ impl SimulatedNetwork {
         }
     }
 
-    fn connect(
-        &mut self,
-        from: Sender,
-        dial: Dial<LinkedHost>,
-        to: Sender,
-        links: &Links<LinkedHost>,
-    ) {
+    fn connect(&mut self, from: Sender, dial: Dial<H>, to: Sender, links: &Links<H>) {
         let closers = [(); 2].map(|()| Arc::new(SimulatedCloser::default()));
         let Some(called) = links.accept(closers[CALLED].clone()) else {
             return dial.failed(&ErrorKind::ConnectionReset.into());
@@ -244,7 +246,7 @@ impl SimulatedNetwork {
         self.dialling.retain(|it| it.from.life != life);
         for Connected { wire, sides } in &mut self.connected {
             for side in [CALLER, CALLED] {
-                let is_own = |it: &mut Side| it.sender.life == life;
+                let is_own = |it: &mut Side<H>| it.sender.life == life;
                 if let Some(gone) = sides[side].take_if(is_own) {
                     let column = Column::Process(gone.sender.place);
                     match self.faults.strikes(Fault::MachineGone, 1, 3, column) {
@@ -258,13 +260,13 @@ impl SimulatedNetwork {
     }
 
     fn forget_ended(&mut self) {
-        let is_there = |it: &Connected| it.sides.iter().any(Option::is_some);
+        let is_there = |it: &Connected<H>| it.sides.iter().any(Option::is_some);
         self.connected.retain(is_there);
     }
 
     /// Returns how many connections have lost one side, or are still to be made.
     pub fn half_connected(&self) -> usize {
-        let is_half = |it: &&Connected| it.sides.iter().any(Option::is_none);
+        let is_half = |it: &&Connected<H>| it.sides.iter().any(Option::is_none);
         self.dialling.len() + self.connected.iter().filter(is_half).count()
     }
 
@@ -319,7 +321,7 @@ impl SimulatedNetwork {
     }
 }
 
-impl Side {
+impl<H: Host> Side<H> {
     /// Writes and reads once. Fails if the side has ended.
     fn exchange(&mut self, mut stream: WireStream<'_>) -> io::Result<()> {
         stream.is_closed = self.closer.is_ended();

@@ -192,8 +192,9 @@ impl World {
         };
         let process = self.processes[place].as_mut();
         let is_stopping = process.is_some_and(|it| it.is_stopping.swap(true, Ordering::Relaxed));
-        if is_stopping {
-            self.end_process(place);
+        match is_stopping {
+            true => self.end_process(place),
+            false => self.begin_to_stop_serving(place),
         }
     }
 
@@ -208,6 +209,7 @@ impl World {
         }
         let campaigner = process.campaigner.take();
         campaigner.into_iter().for_each(|it| it.end());
+        self.stop_serving(&mut process);
         self.leave_links(&process);
         process.member.leave();
         self.bury(process);
@@ -362,6 +364,7 @@ impl World {
         }
         self.turn_beginnings();
         self.settle_fleets();
+        self.settle_servers();
         self.lapse();
     }
 
@@ -390,7 +393,8 @@ impl World {
     fn is_over(&self) -> bool {
         let idle =
             |it: &Process| !it.is_asked() && it.campaigner.as_ref().is_none_or(|it| it.is_idle());
-        let is_idle = self.processes.iter().flatten().all(idle) && self.are_held();
+        let is_idle = self.processes.iter().flatten().all(idle);
+        let is_idle = is_idle && self.are_held() && self.are_clients_told();
         let are_up = (1..=SERVERS).all(|it| self.state_of(it) == UP);
         let is_told = self.ledger.lock().expect("no panic").open() == 0;
         let is_asked = self.asked.iter().any(|it| it.2.strong_count() > 0);

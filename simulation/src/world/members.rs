@@ -25,7 +25,11 @@ impl World {
             self.store().begin_processes(others);
         }
         let shape = self.link_shape(sender);
-        let address = self.fleet.as_ref().map(|it| it.shape.address(sender));
+        let address = match (&self.fleet, &self.server) {
+            (Some(fleet), _) => Some(fleet.shape.address(sender)),
+            (None, Some(_)) => Some(place.to_string()),
+            (None, None) => None,
+        };
         let surroundings = (&self.store, &self.shape.machines[place]);
         match Beginning::new(surroundings, sender, server_of(place), (shape, address)) {
             Ok(beginning) => {
@@ -82,6 +86,7 @@ impl World {
             clock: &self.shape.machines[sender.place],
             links: shape.as_ref(),
             fleet: self.fleet.as_ref().map(|it| &it.shape),
+            server: self.server.as_ref().map(|it| &it.shape),
             bug: self.bug,
         };
         let started = Process::start(

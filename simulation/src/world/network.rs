@@ -4,6 +4,7 @@ use crate::links::LinkedHost;
 use crate::mail::Sender;
 use crate::process::Process;
 use durkenzo_control::links::Links;
+use durkenzo_server::works::ServerHost;
 use std::time::Duration;
 
 /// How many times bytes move at once, at most.
@@ -21,38 +22,45 @@ impl World {
         if let Some(network) = &mut self.network {
             (0..moves).for_each(|_| network.go_on(is_paused));
         }
+        if let Some(server) = &mut self.server {
+            (0..moves).for_each(|_| server.network.go_on(is_paused));
+        }
     }
 
     /// Connects processes to those that their links need, or fails to.
     pub(super) fn reach(&mut self) {
         let (is_calm, now) = (self.store().is_calm, self.time.passed());
-        let there: Vec<_> = there(&self.processes, now).collect();
         if let Some(network) = &mut self.network {
-            for (sender, links) in &there {
-                let dials = links.dials().into_iter();
-                dials.for_each(|it| network.dial(*sender, it));
-            }
-            network.reach(&there, is_calm);
+            network.reach_all(&there(&self.processes, now).collect::<Vec<_>>(), is_calm);
+        }
+        if let Some(server) = &mut self.server {
+            let there: Vec<_> = there_to_serve(&self.processes, now).collect();
+            server.network.reach_all(&there, is_calm);
         }
     }
 
     /// Lets the links of a process do the work that is due.
     pub(super) fn tick_links(&mut self) {
-        let links = self.process().and_then(|it| it.links.clone());
-        links.iter().for_each(Links::tick);
+        if let Some(process) = self.process() {
+            process.links.iter().for_each(Links::tick);
+            process.serving.iter().for_each(|it| it.links.tick());
+        }
     }
 
     /// Makes something fail between processes.
     pub(super) fn harm_network(&mut self) {
         self.network.iter_mut().for_each(|it| it.harm());
+        self.server.iter_mut().for_each(|it| it.network.harm());
     }
 
     /// Delivers everything that is on its way between processes.
     pub(super) fn settle_network(&mut self) {
         let now = self.time.passed();
         there(&self.processes, now).for_each(|it| it.1.tick());
+        there_to_serve(&self.processes, now).for_each(|it| it.1.tick());
         self.reach();
         self.network.iter_mut().for_each(|it| it.settle());
+        self.server.iter_mut().for_each(|it| it.network.settle());
     }
 
     /// Makes a process leave the others. They read everything that it still has to tell.
@@ -65,6 +73,11 @@ impl World {
             links.close();
             network.flush(process.sender.life);
             links.leave_at_once();
+        }
+        if let (Some(serving), Some(server)) = (&process.serving, &mut self.server) {
+            serving.links.close();
+            server.network.flush(process.sender.life);
+            serving.links.leave_at_once();
         }
     }
 
@@ -83,6 +96,10 @@ impl World {
         if let Some(network) = &self.network {
             (self.tally.reached, self.tally.broken) = (network.made, network.broken);
         }
+        if let Some(server) = &self.server {
+            let network = &server.network;
+            (self.tally.reached, self.tally.broken) = (network.made, network.broken);
+        }
     }
 }
 
@@ -94,4 +111,14 @@ fn there(
     let there = processes.iter().flatten();
     let there = there.filter(move |it| it.paused_until <= now);
     there.filter_map(|it| Some((it.sender, it.links.as_ref()?)))
+}
+
+/// Returns the processes that serve clients and aren't paused, and their links.
+fn there_to_serve(
+    processes: &[Option<Process>],
+    now: Duration,
+) -> impl Iterator<Item = (Sender, &Links<ServerHost>)> {
+    let there = processes.iter().flatten();
+    let there = there.filter(move |it| it.paused_until <= now);
+    there.filter_map(|it| Some((it.sender, &it.serving.as_ref()?.links)))
 }

@@ -18,6 +18,8 @@ struct Left {
     readings: usize,
     /// Calls, frames and bodies of fleets.
     of_fleets: [usize; 3],
+    /// Connections of clients, and their turns.
+    of_clients: [usize; 4],
     leases: usize,
     watches: usize,
 }
@@ -25,10 +27,11 @@ struct Left {
 impl World {
     /// Lets time pass until nothing waits. If something waits forever, notes that.
     pub(super) fn rest(&mut self) {
-        let periods = match self.network {
-            Some(_) => LINKED_RESTING,
-            None => RESTING,
+        let periods = match (&self.network, &self.server) {
+            (None, None) => RESTING,
+            (Some(_), _) | (None, Some(_)) => LINKED_RESTING,
         };
+        self.end_clients();
         for _ in 0..periods {
             if self.left() == Left::default() {
                 return;
@@ -51,13 +54,20 @@ impl World {
         Left {
             flights: store.flights.len(),
             messages: of_steps + mails.commands.len() + mails.commands_back.len(),
-            half_connected: self.network.as_ref().map_or(0, |it| it.half_connected()),
+            half_connected: self.half_connected(),
             readings: running().map(|it| it.read.len()).sum(),
             of_fleets: self.left_of_fleets(),
+            of_clients: self.left_of_clients(),
             leases: store.leases().saturating_sub(running().count() + beginning),
             watches: store.watches()
                 - self.client_watches
                 - running().map(|it| it.watches).sum::<usize>(),
         }
+    }
+
+    fn half_connected(&self) -> usize {
+        let own = self.network.as_ref().map_or(0, |it| it.half_connected());
+        let server = self.server.as_ref();
+        own + server.map_or(0, |it| it.network.half_connected())
     }
 }

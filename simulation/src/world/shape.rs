@@ -4,12 +4,16 @@ use crate::chance::Chance;
 use crate::control_shape::ControlShape;
 use crate::fleet::{Callers, FleetShape};
 use crate::machine_clock::{Clocks, MachineClock};
+use crate::network::SimulatedNetwork;
 use crate::part::Part;
 use crate::plan::Plan;
+use crate::server::{ServerKeys, ServingShape};
 use crate::time::Time;
 use crate::timeline::Timeline;
 use crate::world::fleets::FleetOfWorld;
+use crate::world::servers::ServerOfWorld;
 use durkenzo_driver::{Reads, ShardOptions};
+use durkenzo_server::works::ServerHost;
 
 const SHARDS: u16 = 2;
 /// How many shards there are if processes have the control that ships. If there are fewer shards than servers, some
@@ -18,10 +22,11 @@ const CONTROLLED_SHARDS: u16 = 4;
 const FEW_SHARDS: u16 = 2;
 /// A log has at most this many batches before a base replaces them.
 const MOST_BATCHES: u64 = 3;
-/// These numbers give clocks, fleets and numbers of shards random numbers of their own.
+/// These numbers give clocks, fleets, servers and numbers of shards random numbers of their own.
 const OF_CLOCKS: u64 = 0xc10c;
 const OF_SHARDS: u64 = 0x5ba2d;
 const OF_FLEETS: u64 = 0xf1ee7;
+const OF_SERVERS: u64 = 0x5e12e12;
 
 /// The events of each schedule without a fleet, and their weights.
 const ALWAYS: [(Happening, u64); 15] = [
@@ -61,6 +66,28 @@ const FLEET: [(Happening, u64); 17] = [
     (World::call_fleet, 12),
     (World::harm_frames, 1),
     (World::stop_fleet, 1),
+];
+
+/// The events of each schedule with clients that speak RESP.
+const SERVER: [(Happening, u64); 18] = [
+    (World::fly, 30),
+    (World::read, 14),
+    (World::tell_read, 7),
+    (World::hear, 20),
+    (World::tick, 4),
+    (World::turn_members, 6),
+    (World::lapse, 2),
+    (World::trouble_store, 4),
+    (World::crash, 1),
+    (World::start_one, 3),
+    (World::pass_time, 7),
+    (World::move_bytes, 60),
+    (World::reach, 16),
+    (World::tick_links, 10),
+    (World::harm_network, 1),
+    (World::ask_server, 16),
+    (World::serve, 70),
+    (World::move_lines, 50),
 ];
 
 /// More events, if the schedule itself commands.
@@ -113,6 +140,7 @@ impl Shape {
         };
         let always: &[_] = match plan.part {
             Part::Fleet => &FLEET,
+            Part::Server => &SERVER,
             Part::Processes | Part::EtcdClient | Part::Folder => &ALWAYS,
         };
         let linked: &[_] = if is_linked { &LINKED } else { &[] };
@@ -126,12 +154,27 @@ impl Shape {
             happenings,
             shards,
             control: is_controlled.then(|| ControlShape::new(chance, shards, bug)),
-            shard_options: drawn_tuning(chance),
+            shard_options: drawn_tuning(plan, chance),
             machines: (0..PROCESSES)
                 .map(|_| clocks.of_machine(&mut of_clocks, time))
                 .collect(),
             clocks,
         }
+    }
+
+    /// Draws the clients of this plan's schedule that speak RESP, if it has such clients.
+    pub fn server(
+        &self,
+        plan: &Plan,
+        network: SimulatedNetwork<ServerHost>,
+    ) -> Option<ServerOfWorld> {
+        let chance = Chance::new(plan.seed ^ OF_SERVERS);
+        let shape = ServingShape {
+            keys: ServerKeys::new(self.shards),
+            servers: SERVERS,
+            wait: WAIT,
+        };
+        (plan.part == Part::Server).then(|| ServerOfWorld::new(shape, chance, network))
     }
 
     /// Draws the fleet of this plan's schedule, if it has one.
@@ -155,14 +198,15 @@ fn controlled_shards(plan: &Plan) -> u16 {
     }
 }
 
-/// Draws the options of the schedule's shards.
-fn drawn_tuning(chance: &mut Chance) -> ShardOptions {
+/// Draws the options of this plan's shards.
+fn drawn_tuning(plan: &Plan, chance: &mut Chance) -> ShardOptions {
     ShardOptions {
         wait: WAIT,
         most_batches: MOST_BATCHES,
-        reads: match chance.is_true(1, 3) {
-            true => Reads::Lease,
-            false => Reads::Exact,
+        reads: match (chance.is_true(1, 3), plan.part) {
+            // The clients of a server are judged by exact reads.
+            (true, Part::Server) | (false, _) => Reads::Exact,
+            (true, _) => Reads::Lease,
         },
     }
 }
