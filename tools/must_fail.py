@@ -1,4 +1,5 @@
 """The must-fail edits of the proved crates: wrong bodies, each in a file of its own, that the prover must refuse."""
+import pathlib
 import re
 from collections import namedtuple
 
@@ -67,11 +68,18 @@ class Edit:
         before = list(FUNCTION.finditer(text, 0, start + len(new)))
         if len(declared) > 1 or not before:
             return None
-        return f"{block_of(text, before[-1].start())}{before[-1][1]}"
+        return f"{block_of(text, before[-1].start()) or self.module_of(file)}::{before[-1][1]}"
+
+    def module_of(self, file):
+        """Returns the end of the name of a file's module."""
+        path = pathlib.PurePath(file)
+        named = path.parent.name if path.stem == "mod" else path.stem
+        return self.crate if file in ("src/lib.rt", "src/main.rt") else named
 
 
 def block_of(text, at):
-    """Returns the name of the impl or trait in which this place of a file stands, as the prover prints it, and `::`."""
+    """Returns the name of the impl or trait in which this place of a file stands, as the prover prints it, if it stands
+    in one."""
     heads = [it for it in BLOCK.finditer(text, 0, at) if "\n}" not in text[it.end() : at]]
     if not heads:
         return ""
@@ -79,7 +87,7 @@ def block_of(text, at):
     while head != shorter:
         head, shorter = shorter, PARAMETERS.sub("", shorter)
     trait, _, owner = head.split(" where ")[0].strip().rpartition(" for ")
-    return f"{owner.split('::')[-1].strip()}{trait.split('::')[-1].strip()}::"
+    return f"{owner.split('::')[-1].strip()}{trait.split('::')[-1].strip()}"
 
 
 def read(crate, file):
