@@ -8,6 +8,8 @@ mod histories;
 #[cfg(test)]
 mod lead;
 #[cfg(test)]
+mod opaque;
+#[cfg(test)]
 mod ownership;
 #[cfg(test)]
 mod permit;

@@ -1,0 +1,3 @@
+pub mod Opaque
+pub mod Places
+pub mod lemmas

@@ -1,0 +1,2 @@
+-- Lemmas that the code cites.
+pub mod Reads
