@@ -1,2 +1,1 @@
 pub mod AsOwner
-pub mod Fits

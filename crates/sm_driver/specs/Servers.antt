@@ -1,208 +1,29 @@
--- The effects of calls on a server of a shard: each is a step of the protocol, from the decoded bytes that it was
--- given.
-use Rattle.std.specs.Prelude.{ℕ, Bool, true, false, ◌≡◌, ◌+◌, ◌++◌, ◌∷◌, [], List, Option, Some, None, IfSome}
-use Rattle.std.specs.Prelude.{Ok, if◌then◌else◌, length, slice_get, take}
-use Rattle.std.specs.List.{AllByRecursion}
+-- The servers of the sample service, and the keys that they hold.
+use Rattle.std.specs.Prelude.{ℕ, List, [], Option, Some, None, length, take}
 use Rattle.std.specs.Global.{Vec}
-use Rattle.sm_ownership.specs.declared.record.Record.{Record}
 use Rattle.sm_map.specs.KeyMap.{KeyPair, within}
-use Rattle.sm_store.specs.declared.head.Head.{Head}
-use Rattle.sm_store.specs.declared.item.Item.{Item}
-use Rattle.sm_store.specs.Deeds.{Charter, MaySend}
-use Rattle.sm_store.specs.Store.{Transaction}
-use Rattle.sm_codec.specs.Spelling.{batch_bytes, head_bytes, item_views, part_bytes, record_bytes}
-use Rattle.sm_shard.specs.Bases.{Part, base_of}
-use Rattle.sm_shard.specs.declared.base_work.NamedBase.{NamedBase}
 use Rattle.sm_shard.specs.declared.shard_limits.ShardLimits.{ShardLimits}
-use Rattle.sm_shard.specs.declared.shard_server.BatchSending.{BatchSending}
-use Rattle.sm_shard.specs.declared.shard_server.PartsSending.{PartsSending}
-use Rattle.sm_shard.specs.declared.shard_server.ShardServer.{ShardServer}
 use Rattle.sm_shard.specs.declared.shard_state.ShardState.{ShardState}
-use Rattle.sm_shard.specs.declared.steps.ShardInput.{ShardInput}
-use Rattle.sm_shard.specs.declared.steps.ShardInput.TheVariants.{Read, Record as RecordRead, Request, Question}
-use Rattle.sm_shard.specs.declared.steps.ShardInput.TheVariants.{Append, Made}
-use Rattle.sm_shard.specs.declared.steps.ShardOutput.{ShardOutput}
-use Rattle.sm_shard.specs.declared.steps.ShardOutput.TheVariants.{Sends, Answers, Bases, Clears}
-use Rattle.sm_shard.specs.ShardServers.{IsTrueOf, StoreLog, basing_by, parts_transactions, sending_transaction}
-use Rattle.sm_shard.specs.ShardServers.{sent_transaction}
-use Rattle.sm_shard.specs.Steps.{IsCaughtUp, IsOutputOf, IsStepOf, KeepsAsked}
-use Rattle.sm_store.specs.declared.store_key.PassingKey.{PassingKey}
-use Rattle.sm_store.specs.declared.store_key.PassingKey.TheVariants.{Batch, Part as PartKey}
+use Rattle.sm_shard_bytes.specs.Servers.{ByteInput, ByteOutput, DoneOn, IsNewServer, request_size}
 use Rattle.sm_texts.specs.declared.text_reply.TextReply.{TextReply}
-use Rattle.sm_texts.specs.Parts.{part_text}
 use Rattle.sm_texts.specs.Saves.{texts_service}
-use Rattle.sm_texts.specs.Texts.{is_read}
-use Rattle.sm_driver.specs.declared.part_numbers.PartNumbers.{PartNumbers}
-use Rattle.sm_driver.specs.declared.sent_bytes.SentBytes.{SentBytes}
 use Rattle.sm_driver.specs.declared.text_server.TextServer.{TextServer}
 
 -- an input of a server of the sample service
 abbrev pub TextInput : Type 0
-TextInput = ShardInput (Vec ℕ) TextReply
+TextInput = ByteInput TextReply
 
 -- an output of it
 abbrev pub TextOutput : Type 0
-TextOutput = ShardOutput (Vec ℕ) TextReply
-
--- the server of a shard
-abbrev pub TextCore : Type 0
-TextCore = ShardServer (List KeyPair) (Vec ℕ) TextReply
+TextOutput = ByteOutput TextReply
 
 -- a server that has just started, of this shard among so many
-abbrev pub IsNewServer : ℕ → ℕ → ℕ → ShardLimits → TextServer → Type 0
-IsNewServer me shard count limits server =
-    (server.core.me ≡ me) × (server.core.shard ≡ shard) × (server.core.count ≡ count)
-    × (server.core.limits ≡ limits) × (server.parts.items ≡ []) × (server.batches.items ≡ [])
-    × ((log : StoreLog (Vec ℕ) TextReply) → IsTrueOf texts_service log server.core)
+abbrev pub IsNewTexts : ℕ → ℕ → ℕ → ShardLimits → TextServer → Type 0
+IsNewTexts me shard count limits texts = IsNewServer texts_service me shard count limits texts.server
 
--- the bytes that a request takes in a batch
-abbrev pub request_size : Vec ℕ → ℕ
-request_size request = length request.items
-
--- on such an input it made a step of the protocol, with exactly this result
-pub record StepsOn (old : TextServer) (is_input : TextInput → Type 0) (output : TextOutput)
-    (new : TextServer) : Type 0 where
-  pub input : TextInput
-  pub input_is : is_input input
-  pub exact : IsOutputOf texts_service request_size old.core input output
-  pub call : IsStepOf texts_service old.core input (Ok output) new.core
-  pub asked_for : KeepsAsked old.core input (Ok output) new.core
-  pub caught_up : IsCaughtUp old.core input new.core
-  pub me : new.core.me ≡ old.core.me
-  pub shard : new.core.shard ≡ old.core.shard
-  pub count : new.core.count ≡ old.core.count
-  pub limits : new.core.limits ≡ old.core.limits
-
--- it did, and such came of it
-abbrev pub DoneOn : TextServer → (TextInput → Type 0) → (TextOutput → Type 0) → TextServer → Type 0
-DoneOn old is_input is_output new =
-    (output : TextOutput) × is_output output × StepsOn old is_input output new
-
--- with any result
-abbrev pub IsAny : TextOutput → Type 0
-IsAny output = Unit {0}
-
--- the bytes spell the batch that was added to those that were read
-abbrev pub AddsBatch : List (Vec (Item (Vec ℕ))) → List ℕ → List (Vec (Item (Vec ℕ))) → Type 0
-AddsBatch old bytes new =
-    (batch : Vec (Item (Vec ℕ))) × (server : ℕ) × (new ≡ old ++ batch ∷ [])
-    × (bytes ≡ batch_bytes (record { server = server; items = item_views batch.items }))
-
--- the bytes spell the part that was added to those that were read
-abbrev pub AddsPart : List (Part TextReply) → List ℕ → List (Part TextReply) → Type 0
-AddsPart old bytes new =
-    (part : Part TextReply) × (new ≡ old ++ part ∷ []) × (bytes ≡ part_bytes (part_text part))
-
--- the bytes spell the record
-abbrev pub SpellsRecord : List ℕ → Record → Type 0
-SpellsRecord bytes state = (process : ℕ) × (bytes ≡ record_bytes (record { state = state; process = process }))
-
--- the shard was read: its record and the head of its log by these bytes, at these revisions, the parts of its base and
--- the batches
-abbrev pub IsReading : TextServer → List ℕ → ℕ → List ℕ → ℕ → TextInput → Type 0
-IsReading server record_text stood head_text logged (Read state stood' head logged' parts batches) =
-    SpellsRecord record_text state × (stood' ≡ stood) × (head_text ≡ head_bytes head) × (logged' ≡ logged)
-    × (parts.now ≡ server.parts.items) × (batches.now ≡ server.batches.items)
-IsReading server record_text stood head_text logged input = ⊥
-
--- the shard was read from the end of the server's replica on: its record and the head of its log with these bytes, at
--- these revisions, and the batches after those that the server has
-abbrev pub IsAppending : TextServer → List ℕ → ℕ → List ℕ → ℕ → TextInput → Type 0
-IsAppending server record_text stood head_text logged (Append state stood' head logged' batches) =
-    SpellsRecord record_text state × (stood' ≡ stood) × (head_text ≡ head_bytes head) × (logged' ≡ logged)
-    × (batches.now ≡ server.batches.items)
-IsAppending server record_text stood head_text logged input = ⊥
-
--- only the shard's record was read
-abbrev pub IsRecordReading : List ℕ → ℕ → TextInput → Type 0
-IsRecordReading record_text stood (RecordRead state stood') = SpellsRecord record_text state × (stood' ≡ stood)
-IsRecordReading record_text stood input = ⊥
-
--- the request came, as one that is made or as one that only reads
-abbrev pub IsComing : Item (Vec ℕ) → TextInput → Type 0
-IsComing item input = input ≡ (if is_read item.request.items then Question item else Request item)
-
--- it sends the waiting requests
-abbrev pub is_sending : TextOutput → Bool
-is_sending Sends = true
-is_sending output = false
-
--- it writes the parts of a base
-abbrev pub is_basing : TextOutput → Bool
-is_basing Bases = true
-is_basing output = false
-
--- it deletes the value at a key
-abbrev pub is_clearing : TextOutput → Bool
-is_clearing (Clears key) = true
-is_clearing output = false
-
--- the key of a batch of this number, or of a part of the base of this number
-abbrev pub passing_key : ℕ → Bool → ℕ → ℕ → PassingKey
-passing_key shard is_part number place = if is_part then PartKey shard number place else Batch shard number
-
--- the bytes are those of the part at this place of the base that the server makes, whose parts may be sent
-pub record IsPartOf (server : TextServer) (place : ℕ) (numbers : PartNumbers) (bytes : List ℕ) : Type 0 where
-  pub sending : PartsSending TextReply
-  pub part : Part TextReply
-  pub found : slice_get sending.parts.now place ≡ Some part
-  pub spelled : bytes ≡ part_bytes (part_text part)
-  pub number : numbers.number ≡ sending.number
-  pub count : numbers.count ≡ length sending.parts.now
-  pub length_is : numbers.length ≡ length bytes
-  pub own : IfSome server.core.ready (λ ready.
-      parts_transactions {Q = Vec ℕ} sending ≡ basing_by server.core.shard ready.work)
-  pub may : (charter : Charter (Vec ℕ) (Part TextReply)) (log : StoreLog (Vec ℕ) TextReply)
-      → charter.parts ≡ base_of texts_service → IsTrueOf texts_service log server.core
-      → AllByRecursion (MaySend charter log) (parts_transactions sending)
-
--- the bytes that a server's transaction writes to the head of the log
-abbrev pub head_written : List (Item (Vec ℕ)) → Option NamedBase → Head → List ℕ
-head_written [] None head = []
-head_written [] (Some base) head =
-    head_bytes (record { batches = head.batches; base = base.number; parts = base.parts })
-head_written (item ∷ items) base head =
-    head_bytes (record { batches = head.batches + 1; base = head.base; parts = head.parts })
-
--- the bytes that it writes to the next batch
-abbrev pub batch_written : ℕ → List (Item (Vec ℕ)) → List ℕ
-batch_written server [] = []
-batch_written server (item ∷ items) =
-    batch_bytes (record { server = server; items = item_views (item ∷ items) })
-
--- the number of that batch, or 0 for none
-abbrev pub number_written : List (Item (Vec ℕ)) → Head → ℕ
-number_written [] head = 0
-number_written (item ∷ items) head = head.batches + 1
-
--- these are the revisions that a transaction compares, and the bytes that it writes
-pub record IsSpelled (sending : BatchSending (Vec ℕ)) (sent : SentBytes) : Type 0 where
-  pub stood : sent.stood ≡ sending.stood
-  pub logged : sent.logged ≡ sending.logged
-  pub number : sent.number ≡ number_written sending.items.now sending.head
-  pub head : sent.head.items ≡ head_written sending.items.now sending.base sending.head
-  pub batch : sent.batch.items ≡ batch_written sending.server sending.items.now
-
--- the transaction may be sent by one of so many shards
-abbrev pub MayBeSent : TextCore → Transaction (Vec ℕ) (Part TextReply) → Type 0
-MayBeSent core txn =
-    (charter : Charter (Vec ℕ) (Part TextReply)) (log : StoreLog (Vec ℕ) TextReply) → charter.count ≡ core.count
-    → charter.parts ≡ base_of texts_service → IsTrueOf texts_service log core
-    → MaySend charter log txn
-
--- they are those of the server's transaction, which may be sent
-abbrev pub SpellsSending : TextServer → SentBytes → Type 0
-SpellsSending server sent =
-    (sending : BatchSending (Vec ℕ)) × IsSpelled sending sent
-    × IfSome server.core.ready (λ ready.
-    sending_transaction sending ≡ sent_transaction server.core.me server.core.shard ready)
-    × MayBeSent server.core (sending_transaction sending)
-
--- the answers are those of the transaction that was made, and of its reads
-abbrev pub TellsAnswers : TextServer → ℕ → TextServer → Type 0
-TellsAnswers old revision new =
-    DoneOn old (λ input. input ≡ Made revision)
-    (λ output. output ≡ Answers (record { made = new.made; read = new.read })) new
+-- on such an input it made a step of the protocol, with such a result
+abbrev pub TextsDone : TextServer → (TextInput → Type 0) → (TextOutput → Type 0) → TextServer → Type 0
+TextsDone old is_input is_output new = DoneOn texts_service request_size old.server is_input is_output new.server
 
 -- the shard as the server knows it, after all requests that are made
 abbrev pub TextState : Type 0

@@ -5,57 +5,45 @@
 //! and is used by one call at a time.
 #![tactic(auto)]
 
-ghost use Rattle.std.specs.Prelude.{◌≡◌, ◌≢◌, ◌++◌, ◌-◌, ◌^◌, true, None, IfOk, IfSome, length, min};
+ghost use Rattle.std.specs.Prelude.{◌≡◌, ◌≢◌, ◌-◌, ◌^◌, true, None, length, min};
+ghost use Rattle.sm_codec.specs.Spelling.{head_bytes};
 ghost use Rattle.sm_shard.specs.declared.steps.ShardInput.TheVariants.{Base as BaseInput, Clear as ClearInput};
 ghost use Rattle.sm_shard.specs.declared.steps.ShardInput.TheVariants.{Flush as FlushInput, Lost as LostInput};
 ghost use Rattle.sm_shard.specs.declared.steps.ShardInput.TheVariants.{PartsMade as PartsInput};
-ghost use Rattle.sm_codec.specs.Spelling.{head_bytes};
 ghost use Rattle.sm_shard.specs.Decisions.{batches_made, clients_kept};
-ghost use Rattle.sm_driver.specs.Calls.{Between, ComesFrom, IsDecidedAs, IsMadeAnswer, IsReadAnswer, IsRequestInput};
-ghost use Rattle.sm_driver.specs.Calls.{KeepsServer, LacksRoom, ScansKeys, ScansNothing};
-ghost use Rattle.sm_driver.specs.Calls.{MakesOn, TellsRead, WritesPart, WritesSending, WritesSent, is_decided};
-ghost use Rattle.sm_driver.specs.Servers.{AddsBatch, AddsPart, IsAny, IsAppending, IsNewServer, IsReading};
-ghost use Rattle.sm_driver.specs.Servers.{IsRecordReading, TellsAnswers, is_basing, is_clearing, is_sending};
-ghost use Rattle.sm_driver.specs.Servers.{keys_held, passing_key};
+ghost use Rattle.sm_shard_bytes.specs.Calls.{Between, IsDecidedAs, IsRequestInput, KeepsState, WritesPart};
+ghost use Rattle.sm_shard_bytes.specs.Calls.{WritesSending, is_decided};
+ghost use Rattle.sm_shard_bytes.specs.Servers.{AddsBatch, AddsPart, IsAny, IsAppending, IsReading, IsRecordReading};
+ghost use Rattle.sm_shard_bytes.specs.Servers.{TellsAnswers, is_basing, is_clearing, is_sending, passing_key};
+ghost use Rattle.sm_shard_bytes.specs.Servers.{request_size};
+ghost use Rattle.sm_texts.specs.Replies.{reply_bytes};
+ghost use Rattle.sm_texts.specs.Saves.{texts_service};
+ghost use Rattle.sm_texts.specs.Texts.{is_read};
+ghost use Rattle.sm_driver.specs.Calls.{IsMadeAnswer, IsReadAnswer, LacksRoom, MakesOn, ScansKeys, ScansNothing};
+ghost use Rattle.sm_driver.specs.Calls.{TellsRead};
+ghost use Rattle.sm_driver.specs.Servers.{IsNewTexts, keys_held};
 
-mod codes;
-mod driver_fault;
 pub mod key_numbers;
-pub mod log_head;
 mod owned_server;
-pub mod part_numbers;
-mod sending;
-pub mod sent_bytes;
-pub mod sent_numbers;
 pub mod server_handle;
 pub mod text_answer;
-pub mod text_forward;
 pub mod text_server;
-mod written;
 
-use codes::{
-    BAD_ARGUMENT, BAD_BYTES, NO_MEMORY, NO_MORE, TOO_SHORT, UNKNOWN_SHARD, WRONG_HANDLE,
-    code_of_decision, code_of_fault,
-};
 pub use key_numbers::KeyNumbers;
-pub use log_head::LogHead;
-pub use part_numbers::PartNumbers;
-use sent_bytes::SentBytes;
-pub use sent_numbers::SentNumbers;
 pub use server_handle::ServerHandle;
-use sm_codec::read_head;
-use sm_ownership::mode::Mode;
 use sm_ranges::server_id::ServerId;
 use sm_ranges::shard_id::ShardId;
 use sm_shard::{ReadReply, ShardLimits};
-use sm_store::item::Item;
-use sm_store::store_key::PassingKey;
+use sm_shard_bytes::codes::{
+    BAD_ARGUMENT, NO_MEMORY, NO_MORE, TOO_SHORT, UNKNOWN_SHARD, WRONG_HANDLE,
+};
+use sm_shard_bytes::written::write;
+use sm_shard_bytes::{ForwardNumbers, LogHead, PartNumbers, SentNumbers, calls};
 use sm_texts::TextReply;
-use std::alloc::{AllocError, Global};
+use sm_texts::store_texts::is_read;
+use std::alloc::Global;
 pub use text_answer::TextAnswer;
-pub use text_forward::TextForward;
 pub use text_server::TextServer;
-use written::write;
 
 /// Makes a server of the shard, one of so many, that has read nothing yet. A batch takes at most so many bytes and
 /// requests, at most so many requests wait, and the last request of so many clients is kept. The handle keeps the
@@ -72,7 +60,7 @@ pub extern "C" fn durkenzo_server(
     waiting: usize,
     clients: usize,
 ) -> u32
-    ensures made { result ≡ 0 → KeepsServer (IsNewServer me shard count (record {
+    ensures made { result ≡ 0 → KeepsState (IsNewTexts me shard count (record {
       batch_bytes = batch_bytes;
       batch_requests = batch_requests;
       waiting = waiting;
@@ -109,16 +97,15 @@ pub extern "C" fn durkenzo_server_batch(
     server: &mut ServerHandle,
     bytes: &[u8],
 ) -> u32
-    ensures made { result ≡ 0 → Between (λ old new. (new.core ≡ old.core) × (new.parts ≡ old.parts)
-        × AddsBatch old.batches.items bytes.now new.batches.items) server.old.owned.state server.new.owned.state }
+    ensures made { result ≡ 0 → Between (λ old new. (new.server.core ≡ old.server.core)
+        × (new.server.parts ≡ old.server.parts)
+        × AddsBatch old.server.batches.items bytes.now new.server.batches.items)
+        server.old.owned.state server.new.owned.state }
 {
     if !server.full {
         return WRONG_HANDLE;
     }
-    match server.owned.state_mut().add_batch(alloc, bytes) {
-        Ok(()) => 0,
-        Err(fault) => code_of_fault(fault),
-    }
+    calls::batch(alloc, &mut server.owned.state_mut().server, bytes)
 }
 
 /// Adds the next part that was read of the base, in the order of their places, before `durkenzo_server_read`.
@@ -128,16 +115,15 @@ pub extern "C" fn durkenzo_server_part_read(
     server: &mut ServerHandle,
     bytes: &[u8],
 ) -> u32
-    ensures made { result ≡ 0 → Between (λ old new. (new.core ≡ old.core) × (new.batches ≡ old.batches)
-        × AddsPart old.parts.items bytes.now new.parts.items) server.old.owned.state server.new.owned.state }
+    ensures made { result ≡ 0 → Between (λ old new. (new.server.core ≡ old.server.core)
+        × (new.server.batches ≡ old.server.batches)
+        × AddsPart reply_bytes old.server.parts.items bytes.now new.server.parts.items)
+        server.old.owned.state server.new.owned.state }
 {
     if !server.full {
         return WRONG_HANDLE;
     }
-    match server.owned.state_mut().add_part(alloc, bytes) {
-        Ok(()) => 0,
-        Err(fault) => code_of_fault(fault),
-    }
+    calls::part_read(alloc, &mut server.owned.state_mut().server, bytes)
 }
 
 /// Reads the bytes at a log's head, which tell the batches and parts that must be read.
@@ -149,17 +135,7 @@ pub extern "C" fn durkenzo_log_head_of(bytes: &[u8], head: &mut LogHead) -> u32
       parts = head.new.parts;
     }) }
 {
-    match read_head(bytes) {
-        Ok(found) => {
-            *head = LogHead {
-                batches: found.batches,
-                base: found.base,
-                parts: found.parts,
-            };
-            0
-        }
-        Err(_) => BAD_BYTES,
-    }
+    calls::log_head(bytes, head)
 }
 
 /// Tells the handle what was read of the shard: the bytes of its record and of the head of its log, with their
@@ -174,19 +150,13 @@ pub extern "C" fn durkenzo_server_read(
     logged: u64,
 ) -> u32
     ensures made { result ≡ 0 → MakesOn server.old.owned.state
-        (λ old. IsReading old standing.now stood head.now logged) IsAny server.new.owned.state }
+        (λ old. IsReading old.server standing.now stood head.now logged) IsAny server.new.owned.state }
 {
     if !server.full {
         return WRONG_HANDLE;
     }
-    match server
-        .owned
-        .state_mut()
-        .read(alloc, standing, stood, head, logged)
-    {
-        Ok(()) => 0,
-        Err(fault) => code_of_fault(fault),
-    }
+    let texts = server.owned.state_mut();
+    calls::read(alloc, &mut texts.server, standing, stood, head, logged)
 }
 
 /// Notes that the shard was read from the end of the server's replica on: the bytes of its record and of the head of
@@ -202,26 +172,20 @@ pub extern "C" fn durkenzo_server_append(
     logged: u64,
 ) -> u32
     ensures made { result ≡ 0 → MakesOn server.old.owned.state
-        (λ old. IsAppending old standing.now stood head.now logged) IsAny server.new.owned.state }
+        (λ old. IsAppending old.server standing.now stood head.now logged) IsAny server.new.owned.state }
 {
     if !server.full {
         return WRONG_HANDLE;
     }
-    match server
-        .owned
-        .state_mut()
-        .append(alloc, standing, stood, head, logged)
-    {
-        Ok(()) => 0,
-        Err(fault) => code_of_fault(fault),
-    }
+    let texts = server.owned.state_mut();
+    calls::append(alloc, &mut texts.server, standing, stood, head, logged)
 }
 
 /// Writes how many batches the server has made: none before it has read. The caller must read those after them for
 /// `durkenzo_server_append`.
 #[unsafe(no_mangle)]
 pub extern "C" fn durkenzo_server_batch_count(server: &mut ServerHandle, batches: &mut u64) -> u32
-    ensures told { result ≡ 0 → KeepsServer (λ server. batches.new ≡ batches_made server.core.ready)
+    ensures told { result ≡ 0 → KeepsState (λ texts. batches.new ≡ batches_made texts.server.core.ready)
         server.old.owned.state }
     ensures refused { result ≢ 0 → (result ≡ WRONG_HANDLE) × (server.old.owned.state ≡ None) }
     ensures unchanged { server.new.owned.state ≡ server.old.owned.state }
@@ -229,7 +193,7 @@ pub extern "C" fn durkenzo_server_batch_count(server: &mut ServerHandle, batches
     if !server.full {
         return WRONG_HANDLE;
     }
-    *batches = server.owned.state_mut().core.batches();
+    *batches = server.owned.state_mut().server.core.batches();
     0
 }
 
@@ -248,10 +212,7 @@ pub extern "C" fn durkenzo_server_record(
     if !server.full {
         return WRONG_HANDLE;
     }
-    match server.owned.state_mut().record(alloc, standing, stood) {
-        Ok(()) => 0,
-        Err(fault) => code_of_fault(fault),
-    }
+    calls::record(alloc, &mut server.owned.state_mut().server, standing, stood)
 }
 
 /// Takes a request, which came directly (`from` 0) or from that server, forwarded so often. Returns 0 with its reply if
@@ -268,33 +229,29 @@ pub extern "C" fn durkenzo_server_take(
     forgets: u64,
     request: &[u8],
     reply: &mut TextReply,
-    forward: &mut TextForward,
+    forward: &mut ForwardNumbers,
 ) -> u32
     ensures decided { is_decided result ≡ true → MakesOn server.old.owned.state
-        (IsRequestInput client number from hops forgets request.now) (IsDecidedAs result reply.new forward.new)
-        server.new.owned.state }
+        (λ old. IsRequestInput (is_read request.now) client number from hops forgets request.now)
+        (IsDecidedAs result reply.new forward.new) server.new.owned.state }
 {
     if !server.full {
         return WRONG_HANDLE;
     }
-    let Some(mode) = mode_of(from) else {
-        return BAD_ARGUMENT;
-    };
-    let Ok(request) = Vec::from_slice(alloc, request) else {
-        return NO_MEMORY;
-    };
-    let item = Item {
+    let reads = is_read(request);
+    calls::take(
+        alloc,
+        &mut server.owned.state_mut().server,
         client,
         number,
-        mode,
+        from,
         hops,
         forgets,
+        reads,
         request,
-    };
-    match server.owned.state_mut().take(alloc, item) {
-        Ok(decision) => code_of_decision(decision, reply, forward),
-        Err(fault) => code_of_fault(fault),
-    }
+        reply,
+        forward,
+    )
 }
 
 /// Makes waiting requests ready to be sent, if nothing is under way. `sends` says whether there is something to send
@@ -311,13 +268,7 @@ pub extern "C" fn durkenzo_server_flush(
     if !server.full {
         return WRONG_HANDLE;
     }
-    match server.owned.state_mut().flush(alloc) {
-        Ok(found) => {
-            *sends = found;
-            0
-        }
-        Err(fault) => code_of_fault(fault),
-    }
+    calls::flush(alloc, &mut server.owned.state_mut().server, sends)
 }
 
 /// Writes the compares and the writes of the transaction that was sent: its numbers, and the bytes for the head,
@@ -329,13 +280,14 @@ pub extern "C" fn durkenzo_server_sending(
     numbers: &mut SentNumbers,
     into: &mut [u8],
 ) -> u32
-    ensures written { result ≡ 0 → KeepsServer (WritesSending numbers.new into.new) server.old.owned.state }
+    ensures written { result ≡ 0 → KeepsState (λ texts.
+        WritesSending texts_service numbers.new into.new texts.server) server.old.owned.state }
     ensures unchanged { server.new.owned.state ≡ server.old.owned.state }
 {
     if !server.full {
         return WRONG_HANDLE;
     }
-    sent_by(alloc, server.owned.state_mut(), numbers, into)
+    calls::sending(alloc, &server.owned.state_mut().server, numbers, into)
 }
 
 /// Notes that the transaction was made at this revision, or has held there if it only compares. There are so many
@@ -348,23 +300,22 @@ pub extern "C" fn durkenzo_server_made(
     made: &mut usize,
     read: &mut usize,
 ) -> u32
-    ensures made { result ≡ 0 → Between (λ old. TellsAnswers old revision) server.old.owned.state
-        server.new.owned.state }
-    ensures counts { result ≡ 0 → KeepsServer (λ new. (made.new ≡ length new.made.items)
-        × (read.new ≡ length new.read.items)) server.new.owned.state }
+    ensures made { result ≡ 0 → Between (λ old new.
+        TellsAnswers texts_service request_size old.server revision new.server)
+        server.old.owned.state server.new.owned.state }
+    ensures counts { result ≡ 0 → KeepsState (λ new. (made.new ≡ length new.server.made.items)
+        × (read.new ≡ length new.server.read.items)) server.new.owned.state }
 {
     if !server.full {
         return WRONG_HANDLE;
     }
-    let kept = server.owned.state_mut();
-    match kept.on_made(alloc, revision) {
-        Ok(()) => {
-            *made = kept.made.len();
-            *read = kept.read.len();
-            0
-        }
-        Err(fault) => code_of_fault(fault),
-    }
+    calls::made(
+        alloc,
+        &mut server.owned.state_mut().server,
+        revision,
+        made,
+        read,
+    )
 }
 
 /// Writes the answer at this place to a request that was made.
@@ -374,7 +325,7 @@ pub extern "C" fn durkenzo_server_answer(
     at: usize,
     answer: &mut TextAnswer,
 ) -> u32
-    ensures told { result ≡ 0 → KeepsServer (λ server. IsMadeAnswer server at answer.new) server.old.owned.state }
+    ensures told { result ≡ 0 → KeepsState (λ texts. IsMadeAnswer texts at answer.new) server.old.owned.state }
     ensures unchanged { server.new.owned.state ≡ server.old.owned.state }
 {
     if !server.full {
@@ -391,7 +342,7 @@ pub extern "C" fn durkenzo_server_text(
     answer: &mut TextAnswer,
     into: &mut [u8],
 ) -> u32
-    ensures told { result ≡ 0 → KeepsServer (IsReadAnswer at answer.new into.new) server.old.owned.state }
+    ensures told { result ≡ 0 → KeepsState (IsReadAnswer at answer.new into.new) server.old.owned.state }
     ensures unchanged { server.new.owned.state ≡ server.old.owned.state }
 {
     if !server.full {
@@ -411,10 +362,7 @@ pub extern "C" fn durkenzo_server_lost(alloc: Global, server: &mut ServerHandle)
     if !server.full {
         return WRONG_HANDLE;
     }
-    match server.owned.state_mut().on_lost(alloc) {
-        Ok(()) => 0,
-        Err(fault) => code_of_fault(fault),
-    }
+    calls::lost(alloc, &mut server.owned.state_mut().server)
 }
 
 /// Begins a base of all requests that were made, if none is being made and there are batches that the last one doesn't
@@ -431,13 +379,7 @@ pub extern "C" fn durkenzo_server_base(
     if !server.full {
         return WRONG_HANDLE;
     }
-    match server.owned.state_mut().begin_base(alloc) {
-        Ok(found) => {
-            *begins = found;
-            0
-        }
-        Err(fault) => code_of_fault(fault),
-    }
+    calls::base(alloc, &mut server.owned.state_mut().server, begins)
 }
 
 /// Writes the value for the key of the part at this place of the base.
@@ -449,13 +391,14 @@ pub extern "C" fn durkenzo_server_part(
     part: &mut PartNumbers,
     into: &mut [u8],
 ) -> u32
-    ensures written { result ≡ 0 → KeepsServer (WritesPart place part.new into.new) server.old.owned.state }
+    ensures written { result ≡ 0 → KeepsState (λ texts.
+        WritesPart texts_service reply_bytes place part.new into.new texts.server) server.old.owned.state }
     ensures unchanged { server.new.owned.state ≡ server.old.owned.state }
 {
     if !server.full {
         return WRONG_HANDLE;
     }
-    part_in(alloc, server.owned.state_mut(), place, part, into)
+    calls::part(alloc, &server.owned.state_mut().server, place, part, into)
 }
 
 /// Tells the handle that each part of the base was put, so that the next transaction names it.
@@ -467,10 +410,7 @@ pub extern "C" fn durkenzo_server_parts_made(alloc: Global, server: &mut ServerH
     if !server.full {
         return WRONG_HANDLE;
     }
-    match server.owned.state_mut().on_parts_made(alloc) {
-        Ok(()) => 0,
-        Err(fault) => code_of_fault(fault),
-    }
+    calls::parts_made(alloc, &mut server.owned.state_mut().server)
 }
 
 /// Writes to `behind` whether the base that the head names has replaced the batch with this number; or, if `is_part`,
@@ -485,27 +425,20 @@ pub extern "C" fn durkenzo_server_is_behind(
     behind: &mut bool,
 ) -> u32
     ensures made { result ≡ 0 → MakesOn server.old.owned.state
-        (λ old input. input ≡ ClearInput (passing_key old.core.shard is_part number place))
+        (λ old input. input ≡ ClearInput (passing_key old.server.core.shard is_part number place))
         (λ output. is_clearing output ≡ behind.new) server.new.owned.state }
 {
     if !server.full {
         return WRONG_HANDLE;
     }
-    let kept = server.owned.state_mut();
-    let key = passing_key(kept.core.shard, is_part, number, place);
-    match kept.clears(alloc, key) {
-        Ok(found) => {
-            *behind = found;
-            0
-        }
-        Err(fault) => code_of_fault(fault),
-    }
+    let texts = server.owned.state_mut();
+    calls::is_behind(alloc, &mut texts.server, is_part, number, place, behind)
 }
 
 /// Writes how many clients' last requests the server keeps: none before it has read.
 #[unsafe(no_mangle)]
 pub extern "C" fn durkenzo_server_clients(server: &mut ServerHandle, clients: &mut usize) -> u32
-    ensures told { result ≡ 0 → KeepsServer (λ server. clients.new ≡ clients_kept server.core.ready)
+    ensures told { result ≡ 0 → KeepsState (λ texts. clients.new ≡ clients_kept texts.server.core.ready)
         server.old.owned.state }
     ensures refused { result ≢ 0 → (result ≡ WRONG_HANDLE) × (server.old.owned.state ≡ None) }
     ensures unchanged { server.new.owned.state ≡ server.old.owned.state }
@@ -513,7 +446,7 @@ pub extern "C" fn durkenzo_server_clients(server: &mut ServerHandle, clients: &m
     if !server.full {
         return WRONG_HANDLE;
     }
-    *clients = server.owned.state_mut().core.clients();
+    *clients = server.owned.state_mut().server.core.clients();
     0
 }
 
@@ -521,7 +454,7 @@ pub extern "C" fn durkenzo_server_clients(server: &mut ServerHandle, clients: &m
 /// server has read.
 #[unsafe(no_mangle)]
 pub extern "C" fn durkenzo_server_keys(server: &mut ServerHandle, keys: &mut u64) -> u32
-    ensures told { result ≡ 0 → KeepsServer (λ server. keys.new ≡ min (keys_held server.core.ready) (2 ^ 64 - 1))
+    ensures told { result ≡ 0 → KeepsState (λ texts. keys.new ≡ min (keys_held texts.server.core.ready) (2 ^ 64 - 1))
         server.old.owned.state }
     ensures refused { result ≢ 0 → (result ≡ WRONG_HANDLE) × (server.old.owned.state ≡ None) }
     ensures unchanged { server.new.owned.state ≡ server.old.owned.state }
@@ -546,7 +479,7 @@ pub extern "C" fn durkenzo_server_scan(
     numbers: &mut KeyNumbers,
     into: &mut [u8],
 ) -> u32
-    ensures told { result ≡ 0 → KeepsServer (ScansKeys low.now high.now most numbers.new into.new)
+    ensures told { result ≡ 0 → KeepsState (ScansKeys low.now high.now most numbers.new into.new)
         server.old.owned.state }
     ensures refused { result ≢ 0 → ScansNothing low.now high.now most into.old result server.old.owned.state }
     ensures unchanged { server.new.owned.state ≡ server.old.owned.state }
@@ -571,83 +504,6 @@ pub extern "C" fn durkenzo_server_close(alloc: Global, server: &mut ServerHandle
     ensures { server.new.owned.state ≡ None }
 {
     server.close(alloc);
-}
-
-// How a request came: directly for 0, or from this server.
-fn mode_of(from: u16) -> Option<Mode>
-    ensures { IfSome result (ComesFrom from) }
-{
-    if from == 0 {
-        return Some(Mode::Direct);
-    }
-    match ServerId::new(from) {
-        Some(server) => Some(Mode::Forwarded(server)),
-        None => None,
-    }
-}
-
-// The key of a batch of this number, or of a part of the base of this number.
-fn passing_key(shard: ShardId, is_part: bool, number: u64, place: u64) -> PassingKey
-    ensures { result ≡ passing_key shard is_part number place }
-{
-    if is_part {
-        PassingKey::Part(shard, number, place)
-    } else {
-        PassingKey::Batch(shard, number)
-    }
-}
-
-// Writes the compares and the writes of the server's transaction.
-fn sent_by(alloc: Global, server: &TextServer, numbers: &mut SentNumbers, into: &mut [u8]) -> u32
-    ensures { result ≡ 0 → WritesSending numbers.new into.new server.now }
-{
-    match server.sending(alloc) {
-        Ok(sent) => write_sent(sent, numbers, into),
-        Err(fault) => code_of_fault(fault),
-    }
-}
-
-fn write_sent(sent: SentBytes, numbers: &mut SentNumbers, into: &mut [u8]) -> u32
-    ensures { result ≡ 0 → WritesSent sent numbers.new into.new }
-{
-    let written = SentNumbers {
-        stood: sent.stood,
-        logged: sent.logged,
-        number: sent.number,
-        head_length: sent.head.len(),
-        batch_length: sent.batch.len(),
-    };
-    match joined(sent.head, &sent.batch) {
-        Ok(bytes) => if write(&bytes, into) {
-            *numbers = written;
-            0
-        } else {
-            TOO_SHORT
-        },
-        Err(_) => NO_MEMORY,
-    }
-}
-
-// Writes the part at this place of the base that the server makes.
-fn part_in(
-    alloc: Global,
-    server: &TextServer,
-    place: usize,
-    part: &mut PartNumbers,
-    into: &mut [u8],
-) -> u32
-    ensures { result ≡ 0 → WritesPart place part.new into.new server.now }
-{
-    match server.part(alloc, place) {
-        Ok(Some((numbers, bytes))) => if write(&bytes, into) {
-            *part = numbers;
-            0
-        } else {
-            TOO_SHORT
-        },
-        Ok(None) => NO_MORE,
-        Err(fault) => code_of_fault(fault),
-    }
 }
 
 // Writes the keys of the server from low on and below high, at most so many.
@@ -677,19 +533,10 @@ fn keys_in(
     }
 }
 
-// Returns the bytes, followed by those of the tail.
-fn joined(bytes: Vec<u8>, tail: &[u8]) -> Result<Vec<u8>, AllocError>
-    ensures { IfOk result (λ all. all.items ≡ bytes.items ++ tail.now) }
+fn answer_in(texts: &TextServer, at: usize, answer: &mut TextAnswer) -> u32
+    ensures { result ≡ 0 → IsMadeAnswer texts.now at answer.new }
 {
-    let mut all = bytes;
-    all.extend_from_slice(tail)?;
-    Ok(all)
-}
-
-fn answer_in(server: &TextServer, at: usize, answer: &mut TextAnswer) -> u32
-    ensures { result ≡ 0 → IsMadeAnswer server.now at answer.new }
-{
-    let Some(made) = server.made.get(at) else {
+    let Some(made) = texts.server.made.get(at) else {
         return NO_MORE;
     };
     *answer = TextAnswer {
@@ -702,10 +549,10 @@ fn answer_in(server: &TextServer, at: usize, answer: &mut TextAnswer) -> u32
     0
 }
 
-fn text_in(server: &TextServer, at: usize, answer: &mut TextAnswer, into: &mut [u8]) -> u32
-    ensures { result ≡ 0 → IsReadAnswer at answer.new into.new server.now }
+fn text_in(texts: &TextServer, at: usize, answer: &mut TextAnswer, into: &mut [u8]) -> u32
+    ensures { result ≡ 0 → IsReadAnswer at answer.new into.new texts.now }
 {
-    match server.read.get(at) {
+    match texts.server.read.get(at) {
         Some(read) => tell_read(read, answer, into),
         None => NO_MORE,
     }

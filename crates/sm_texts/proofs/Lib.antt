@@ -1,4 +1,3 @@
-pub mod Items
 pub mod Pairs
 pub mod Reached
 pub mod Loading

@@ -1,4 +1,4 @@
-pub mod Parts
+pub mod Replies
 pub mod Texts
 pub mod Saves
 pub mod Keys

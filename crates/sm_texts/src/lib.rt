@@ -1,5 +1,5 @@
-//! The sample service as the machine of a shared store: texts and counts by key, with requests, replies, the whole map
-//! and the parts of a base as bytes.
+//! The sample service as the machine of a shared store: texts and counts by key, with requests, replies and the whole
+//! map as bytes.
 //!
 //! ```rust
 //! let mut texts = StoreTexts::new(rt.alloc());
@@ -11,14 +11,12 @@
 #![tactic(auto)]
 
 pub mod key_bytes;
-pub mod parts;
 pub mod requests;
 mod saves;
 pub mod store_texts;
 pub mod text_reply;
 
 pub use key_bytes::spelled_keys;
-pub use parts::{read_base_part, write_base_part};
 pub use requests::parts_of;
 pub use sm_map::val::Val;
 pub use store_texts::StoreTexts;

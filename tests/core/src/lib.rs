@@ -14,6 +14,8 @@ mod ownership;
 #[cfg(test)]
 mod permit;
 #[cfg(test)]
+mod places;
+#[cfg(test)]
 mod ranges;
 #[cfg(test)]
 mod refused;

@@ -1,5 +1,6 @@
 use sm_shard::{BasePart, LastRequest, StoreMachine};
-use sm_texts::{StoreTexts, TextReply, Val, read_base_part, write_base_part};
+use sm_shard_bytes::{read_base_part, write_base_part};
+use sm_texts::{StoreTexts, TextReply, Val};
 use std::alloc::Global;
 use std::process::Abort;
 
@@ -60,7 +61,7 @@ fn reads_a_part_of_a_base_again(rt: HostRuntime) {
     let part = BasePart::new(state, lasts, 5);
     let written = write_base_part(rt.alloc(), &part).expect(&rt, "memory");
     let mut bytes = written.expect(&rt, "bytes");
-    let read = read_base_part(rt.alloc(), &bytes)
+    let read = read_base_part::<TextReply>(rt.alloc(), &bytes)
         .ok()
         .expect(&rt, "a part");
     let again = read.expect(&rt, "replies");
@@ -73,7 +74,7 @@ fn reads_a_part_of_a_base_again(rt: HostRuntime) {
     assert!(rt; last.reply == reply);
     // A last request that was forwarded.
     bytes[42] = 1;
-    let read = read_base_part(rt.alloc(), &bytes);
+    let read = read_base_part::<TextReply>(rt.alloc(), &bytes);
     assert!(rt; matches!(read, Ok(None)));
-    assert!(rt; read_base_part(rt.alloc(), &bytes[..41]).is_err());
+    assert!(rt; read_base_part::<TextReply>(rt.alloc(), &bytes[..41]).is_err());
 }

@@ -1,7 +1,0 @@
-use Rattle.std.proofs.Common.{◌≡◌, map, take}
-use Rattle.sm_codec.specs.Spelling.{item_views}
-use Rattle.sm_texts.specs.Parts.{last_item}
-use Rattle.sm_texts.proofs.parts.lasts_of.Given as goal
-
-abbrev pub invariant-loop-item : goal.invariant-loop-item
-invariant-loop-item l = item_views (take l.item-index l.items) ≡ map last_item l.lasts.items
