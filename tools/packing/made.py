@@ -65,9 +65,7 @@ def server_over(libraries=None):
 def proved_files():
     """Returns the results of the proofs that are packed: the program and the static libraries, each by its crate and
     its name."""
-    lines = (TOP / "crates.txt").read_text(encoding="utf-8").splitlines()
-    crates = [it.split()[0] for it in lines if "staticlib" in it.partition(":")[0].split()[1:]]
-    return [(PROGRAM, PROGRAM), *((it, f"lib{it}.a") for it in crates)]
+    return [(PROGRAM, PROGRAM), *((it, exported.library_of(it)) for it in exported.CRATES)]
 
 
 def proved(room):
