@@ -22,6 +22,7 @@ use std::thread;
 use std::time::{Duration, Instant};
 
 const SHARDS: u16 = 4;
+const CLIENTS: u64 = 6;
 /// The least time for which clients go on.
 const LASTS: Duration = Duration::from_secs(3);
 /// The least number of their answers.
@@ -121,6 +122,11 @@ impl Drop for Stopping<'_> {
     }
 }
 
+/// Returns the key of a client's words. A text has room for the words of one client.
+fn list_of(client: u64) -> Vec<u8> {
+    format!("list{client}").into_bytes()
+}
+
 /// Makes a client ask any of the processes, until it must stop.
 fn client(nodes: &[Node], number: u64, progress: &Progress, tolerates: bool) -> Answered {
     let (mut dice, mut answered, mut at) = (Dice(number), Answered::default(), 0);
@@ -132,7 +138,7 @@ fn client(nodes: &[Node], number: u64, progress: &Progress, tolerates: bool) -> 
         let word = format!("{number}.{shard}.{at}");
         let told = match adds {
             true => add(&node.durable, shard, b"count", 1),
-            false => append(&node.durable, shard, b"list", &word),
+            false => append(&node.durable, shard, &list_of(number), &word),
         };
         let place = usize::from(shard);
         match told {
@@ -140,7 +146,8 @@ fn client(nodes: &[Node], number: u64, progress: &Progress, tolerates: bool) -> 
             Err(NotDone::Stopped | NotDone::Busy | NotDone::Unread | NotDone::NotMade(_))
                 if tolerates => {}
             Err(why) => panic!("it wasn't done: {why}"),
-            Ok(_) => {
+            Ok(replies) => {
+                assert!(adds || replies == [MapReply::Done], "{replies:?}");
                 progress.answers.fetch_add(1, Ordering::Relaxed);
                 answered.counts[place] += i64::from(adds);
                 answered.words.extend((!adds).then_some(word));
@@ -155,7 +162,7 @@ fn under_clients(nodes: &[Node], tolerates: bool, work: impl FnOnce(&Progress)) 
     let (progress, mut all) = (Progress::default(), Answered::default());
     let asking = &progress;
     thread::scope(|scope| {
-        let clients: Vec<_> = (0..6)
+        let clients: Vec<_> = (0..CLIENTS)
             .map(|it| scope.spawn(move || client(nodes, it, asking, tolerates)))
             .collect();
         let stopping = Stopping(asking);
@@ -177,7 +184,7 @@ fn under_clients(nodes: &[Node], tolerates: bool, work: impl FnOnce(&Progress)) 
 fn assert_words(durable: &Durable, words: &[String], others: bool) {
     let mut found = HashSet::new();
     for shard in 0..SHARDS {
-        for word in words_of(durable, shard, b"list") {
+        for word in (0..CLIENTS).flat_map(|it| words_of(durable, shard, &list_of(it))) {
             assert!(found.insert(word.clone()), "{word} is there twice");
         }
     }
