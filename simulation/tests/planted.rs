@@ -4,7 +4,7 @@ use simulation::part::Part;
 use simulation::plan::Plan;
 use simulation::world::{run, run_by, transcript};
 
-const SCHEDULES: u64 = 20_000;
+const SCHEDULES: u64 = 50_000;
 
 fn found(bug: Bug) -> Option<(u64, &'static str)> {
     (0..SCHEDULES).find_map(|seed| run(seed, Some(bug)).1.err().map(|it| (seed + 1, it.law)))

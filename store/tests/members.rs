@@ -3,8 +3,8 @@ mod beside;
 
 use beside::{free_port, Folder, Member, PATIENCE};
 use durkenzo_store::{
-    Access, Etcd, LeaseError, Outcome, ReadError, Revision, Seen, StartError, Store, Transaction,
-    WriteError,
+    Access, Etcd, LeaseError, Outcome, ReadError, Revision, Seen, StartError, Store, StoreSize,
+    Transaction, WriteError,
 };
 use std::io::{Read, Write};
 use std::net::TcpListener;
@@ -272,6 +272,19 @@ fn uses_at_most(store: &Etcd, all: &Etcd, bytes: u64) {
     }
 }
 
+/// Waits until the store uses more than so many bytes. A member counts a write some time after it was made.
+fn uses_more_than(store: &Etcd, bytes: u64) -> StoreSize {
+    let end = Instant::now() + ASIDE;
+    loop {
+        let size = store.size().expect("it answers").expect("members tell it");
+        if size.used > bytes {
+            return size;
+        }
+        assert!(Instant::now() < end, "{size:?} isn't more than {bytes}");
+        thread::sleep(Duration::from_millis(100));
+    }
+}
+
 /// A member that is away compacts once it is back.
 #[test]
 fn compacts_history_though_a_member_is_away() {
@@ -284,8 +297,7 @@ fn compacts_history_though_a_member_is_away() {
     for _ in 0..100 {
         made(store.make(Transaction::new().put("a", vec![7; 200_000])));
     }
-    let size = store.size().expect("it answers").expect("members tell it");
-    assert!(size.used > 20_000_000, "{size:?}");
+    let size = uses_more_than(&store, 20_000_000);
     members[0].kill();
     store.compact_history().expect("two are enough");
     uses_at_most(&store, &store, size.used / 4);
