@@ -13,6 +13,8 @@ use std::time::{Duration, Instant};
 
 /// The least number of batches that a log gets before a base replaces them.
 const BATCHES: i64 = 50;
+/// So many batches more get no base of their own.
+const FEW: i64 = 10;
 
 /// Three processes over one store, a control, and the readings of each process.
 struct Trio {
@@ -229,11 +231,11 @@ fn a_killed_member_costs_the_next_owner_no_base() {
         });
         set_down(false);
     });
-    for more in 2..=BATCHES {
+    for more in 2..=FEW {
         trio.adds(1, BATCHES + more);
     }
     settle(&mut trio.control, 0);
-    trio.adds(2, 2 * BATCHES + 1);
+    trio.adds(2, BATCHES + FEW + 1);
     let after: Vec<_> = counts.iter().map(|it| it.parts()).collect();
     assert_eq!(after, parts);
 }
