@@ -122,13 +122,14 @@ def reached(name, direct):
 
 
 def together(edits, crate, most):
-    """Returns these edits in groups, each of which can be tried at once: at most `most` edits whose functions differ and
-    don't reach one another, so that the prover judges each body as if it alone were wrong."""
+    """Returns these edits in groups, each of which can be tried at once: at most `most` edits whose functions differ
+    and don't reach one another, so that the prover judges each body as if it alone were wrong."""
     reach, groups = called(crate), []
     names = {it.name: {function.split("::")[-1] for function in it.functions()} for it in edits}
 
     def touches(one, other):
-        return any(a == b or b in reach.get(a, ()) or a in reach.get(b, ()) for a in names[one.name] for b in names[other.name])
+        pairs = [(a, b) for a in names[one.name] for b in names[other.name]]
+        return any(a == b or b in reach.get(a, ()) or a in reach.get(b, ()) for a, b in pairs)
 
     for edit in edits:
         fits = (it for it in groups if len(it) < most and not any(touches(edit, other) for other in it))

@@ -5,7 +5,7 @@ use crate::line::Line;
 use crate::links::{Inbox, LinkShape, LinkedHost};
 use crate::machine_clock::MachineClock;
 use crate::mail::{Mails, Message, Sender};
-use crate::server::{Serving, ServingShape};
+use crate::server::{SimulatedServer, SimulatedServerShape};
 use crate::simulated_host::SimulatedHost;
 use crate::simulated_peers::SimulatedPeers;
 use crate::simulated_store::SharedStore;
@@ -33,7 +33,7 @@ pub struct Surroundings<'a> {
     /// The shape of its fleet, if it belongs to one. Then its service executes by permits, and acks records itself.
     pub fleet: Option<&'a FleetShape>,
     /// How it serves clients that speak RESP, if it does.
-    pub server: Option<&'a ServingShape>,
+    pub server: Option<&'a SimulatedServerShape>,
     pub bug: Option<Bug>,
 }
 
@@ -56,7 +56,7 @@ pub struct Process {
     /// The process's part of a fleet, in schedules that have one.
     pub fleet: Option<RunningFleet>,
     /// The part of the process that serves clients, in schedules that have such clients.
-    pub serving: Option<Serving>,
+    pub serving: Option<SimulatedServer>,
     /// Whether the process was asked to stop.
     pub is_stopping: Arc<AtomicBool>,
     /// The process does nothing before this time.

@@ -797,7 +797,8 @@ impl World {
     }
 }
 
-/// Returns the random numbers of the network, if the processes have the links that ship. Those of a fleet have none, and those of a server have their own.
+/// Returns the random numbers of the network, if the processes have the links that ship. Those of a fleet have none, and
+/// those of a server have their own.
 /// The numbers have a stream of their own, because the seeds of other schedules must stay as they were before there
 /// were links.
 fn chance_of_links(plan: &Plan) -> Option<Chance> {

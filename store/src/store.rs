@@ -123,8 +123,8 @@ pub trait Store: Send + std::marker::Sync {
     /// Compacts history up to the present: values that were overwritten or deleted are discarded, and later values take
     /// their room. The call doesn't wait for that, and no member pauses.
     ///
-    /// No process needs an earlier revision. A reading whose moment is compacted begins again, and so does a watch whose
-    /// next change is compacted.
+    /// No process needs an earlier revision. A reading whose moment is compacted begins again, and so does a watch
+    /// whose next change is compacted.
     ///
     /// # Errors
     ///

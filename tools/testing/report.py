@@ -1,4 +1,5 @@
-"""The costs of a run of proofs: the sums, the longest tasks, the cost of a check of edits, and how long processors idled."""
+"""The costs of a run of proofs: the sums, the longest tasks, the cost of a check of edits, and how long processors
+idled."""
 import collections
 import os
 import textwrap

@@ -63,7 +63,7 @@ class Trial:
         folders = [sources.CRATES / it / part for it in crates for part in PARTS]
         files = [it for folder in folders for it in sorted(folder.rglob("*")) if it.is_file()]
         files += [sources.TOP / "crates.txt", *(it.path for it in must_fail.edits_of(self.crate))]
-        files += [pathlib.Path(it.__file__).resolve() for it in (must_fail, prover)] + [pathlib.Path(__file__).resolve()]
+        files += [pathlib.Path(it).resolve() for it in (must_fail.__file__, prover.__file__, __file__)]
         found = hashlib.sha256((prover.KIT / "KIT-ID").read_bytes())
         for file in files:
             found.update(f"{file.relative_to(sources.TOP)}\0{file.stat().st_size}\0".encode() + file.read_bytes())
@@ -82,7 +82,8 @@ class Trial:
     def left(self, group, kept):
         """Returns the edits of the group that one check of them all doesn't refuse, each by its own function."""
         functions = sorted({function for edit in group for function in edit.functions()})
-        status, said = self.check(group, ["--incremental", kept, *(word for it in functions for word in ("--only", it))])
+        only = [word for it in functions for word in ("--only", it)]
+        status, said = self.check(group, ["--incremental", kept, *only])
         if status != 1 or is_unread(group, said):
             return group
         judged = JUDGED.findall(said)

@@ -28,8 +28,9 @@ pub(super) struct Leader {
 }
 
 impl Leader {
-    /// Makes this control lead several processes over their store. If `assigns` is set, vacant shards get owners once all servers are
-    /// there, or have been awaited long enough. If this process's server is back from a stop, it is brought up then.
+    /// Makes this control lead several processes over their store. If `assigns` is set, vacant shards get owners once
+    /// all servers are there, or have been awaited long enough. If this process's server is back from a stop, it is
+    /// brought up then.
     pub(super) fn new(
         mut control: Controller,
         (peers, store): (Arc<dyn OtherControls>, Arc<dyn Store>),

@@ -1,7 +1,7 @@
 use durkenzo_driver::refusals;
 
-/// Returns the names by which the control refuses and servers answer errors, except those that Redis has. A name may come
-/// twice.
+/// Returns the names by which the control refuses and servers answer errors, except those that Redis has. A name may
+/// come twice.
 pub fn error_names() -> impl Iterator<Item = &'static str> {
     let of_scripts = refusals::NAMES.iter().chain(&OF_SCRIPTS).copied();
     let of_control = NAMES.iter().map(|it| it.0);

@@ -21,8 +21,8 @@ const LAST: Duration = Duration::from_millis(500);
 /// How long a process that couldn't be reached isn't tried again, at first and at most.
 const FIRST_PAUSE: Duration = Duration::from_millis(20);
 const LAST_PAUSE: Duration = Duration::from_millis(500);
-/// How long after a connection failed or broke another one is made although nothing waits to be sent. So whoever watches
-/// sees within that time that the process is reached again.
+/// How long after a connection failed or broke another one is made although nothing waits to be sent. So whoever
+/// watches sees within that time that the process is reached again.
 const LOOK: Duration = Duration::from_secs(5);
 
 /// The link to the process of one server: its requests, and its connection. The connection is made when it is needed.
@@ -287,7 +287,8 @@ impl<H: Host> Link<H> {
         state.version
     }
 
-    /// Notes that the process was reached, its identity, and how long it took to greet. This closer ends the connection.
+    /// Notes that the process was reached, its identity, and how long it took to greet. This closer ends the
+    /// connection.
     pub(super) fn note_reached(
         &self,
         identity: Identity,

@@ -199,9 +199,9 @@ impl Durable {
         self.inner.shards.len() as u16
     }
 
-    /// Makes the shard do these steps of one client, in their order. If another process's server gets some of them while
-    /// the outcome of an earlier one isn't known, that one may be made after them. If there is no such shard, nothing is
-    /// done.
+    /// Makes the shard do these steps of one client, in their order. If another process's server gets some of them
+    /// while the outcome of an earlier one isn't known, that one may be made after them. If there is no such shard,
+    /// nothing is done.
     pub fn submit(&self, shard: u16, steps: Vec<WorkStep>) {
         let Some(steps) = self.taken(steps) else {
             return;

@@ -5,10 +5,10 @@ mod history;
 mod resp_client;
 mod resp_reply;
 mod server_keys;
-mod serving;
+mod simulated_server;
 
 pub use client_line::SharedLine;
 pub use history::History;
 pub use resp_client::RespClient;
 pub use server_keys::ServerKeys;
-pub use serving::{Serving, ServingShape};
+pub use simulated_server::{SimulatedServer, SimulatedServerShape};

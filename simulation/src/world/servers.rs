@@ -7,7 +7,7 @@ use crate::law::Broken;
 use crate::network::SimulatedNetwork;
 use crate::process::Process;
 use crate::reading::MapModel;
-use crate::server::{History, RespClient, Serving, ServingShape, SharedLine};
+use crate::server::{History, RespClient, SharedLine, SimulatedServer, SimulatedServerShape};
 use crate::timeline::Column;
 use durkenzo_control::control::Refusal;
 use durkenzo_server::works::ServerHost;
@@ -33,7 +33,7 @@ const MOST_UNSENT: usize = (1 << 20) + (80 << 10);
 
 /// The clients of a schedule.
 pub struct ServerOfWorld {
-    pub shape: ServingShape,
+    pub shape: SimulatedServerShape,
     /// The network between the processes.
     pub network: SimulatedNetwork<ServerHost>,
     chance: Chance,
@@ -49,7 +49,7 @@ pub struct ServerOfWorld {
 impl ServerOfWorld {
     /// Returns clients that aren't connected.
     pub fn new(
-        shape: ServingShape,
+        shape: SimulatedServerShape,
         chance: Chance,
         network: SimulatedNetwork<ServerHost>,
     ) -> ServerOfWorld {
@@ -131,7 +131,7 @@ impl World {
     fn refuse_asked(&self, place: usize) {
         let process = self.processes[place].as_ref();
         let serving = process.and_then(|it| it.serving.as_ref());
-        let asked = |it: &Serving| it.take_asked();
+        let asked = |it: &SimulatedServer| it.take_asked();
         while let Some(asked) = serving.and_then(asked) {
             asked.refuse(Refusal::crowded());
         }
@@ -219,14 +219,18 @@ impl World {
     pub(super) fn begin_to_stop_serving(&self, place: usize) {
         let process = self.processes[place].as_ref();
         let serving = process.and_then(|it| it.serving.as_ref());
-        serving.into_iter().for_each(Serving::stop);
+        serving.into_iter().for_each(SimulatedServer::stop);
     }
 
     /// Returns the processes that have ended, and those that stop.
     fn ended(&self) -> BTreeSet<u64> {
         let mut ended = self.ledger.lock().expect("no panic").ended.clone();
         let running = self.processes.iter().flatten();
-        let stopping = running.filter(|it| it.serving.as_ref().is_some_and(Serving::is_stopping));
+        let stopping = running.filter(|it| {
+            it.serving
+                .as_ref()
+                .is_some_and(SimulatedServer::is_stopping)
+        });
         ended.extend(stopping.map(|it| it.sender.life));
         ended
     }
@@ -254,7 +258,7 @@ impl World {
     /// connections clients have.
     pub(super) fn left_of_clients(&self) -> [usize; 4] {
         let running = self.processes.iter().flatten();
-        let serving: Vec<&Serving> = running.filter_map(|it| it.serving.as_ref()).collect();
+        let serving: Vec<&SimulatedServer> = running.filter_map(|it| it.serving.as_ref()).collect();
         let held: Vec<_> = serving.iter().map(|it| it.held()).collect();
         let clients = self.server.iter().flat_map(|it| &it.clients);
         [

@@ -7,7 +7,7 @@ use crate::machine_clock::{Clocks, MachineClock};
 use crate::network::SimulatedNetwork;
 use crate::part::Part;
 use crate::plan::Plan;
-use crate::server::{ServerKeys, ServingShape};
+use crate::server::{ServerKeys, SimulatedServerShape};
 use crate::time::Time;
 use crate::timeline::Timeline;
 use crate::world::fleets::FleetOfWorld;
@@ -169,7 +169,7 @@ impl Shape {
         network: SimulatedNetwork<ServerHost>,
     ) -> Option<ServerOfWorld> {
         let chance = Chance::new(plan.seed ^ OF_SERVERS);
-        let shape = ServingShape {
+        let shape = SimulatedServerShape {
             keys: ServerKeys::new(self.shards),
             servers: SERVERS,
             wait: WAIT,

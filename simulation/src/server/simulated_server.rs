@@ -29,7 +29,7 @@ const MOST_ASKED: usize = 16;
 
 /// How processes serve clients that speak RESP.
 #[derive(Clone)]
-pub struct ServingShape {
+pub struct SimulatedServerShape {
     pub keys: ServerKeys,
     pub servers: u16,
     /// How long a command waits.
@@ -37,7 +37,7 @@ pub struct ServingShape {
 }
 
 /// The part of a process that serves clients.
-pub struct Serving {
+pub struct SimulatedServer {
     cluster: Arc<Cluster>,
     inlet: Arc<Inlet>,
     /// The connections, until their thread ends.
@@ -53,7 +53,7 @@ pub struct Serving {
     due: Option<Instant>,
 }
 
-impl ServingShape {
+impl SimulatedServerShape {
     /// Returns the links of this member's process, and the other processes that it reaches by them.
     pub fn reach(
         &self,
@@ -83,7 +83,7 @@ impl ServingShape {
         (links, peers): (Links<ServerHost>, Arc<Peers>),
         durable: &Arc<Durable>,
         clock: &MachineClock,
-    ) -> Serving {
+    ) -> SimulatedServer {
         let rule = Rule::Bounds(self.keys.bounds());
         let keyspace = Keyspace::new(&rule).expect("the bounds rise");
         let configuration = Configuration {
@@ -106,7 +106,7 @@ impl ServingShape {
         let (control, asked) = sync_channel(MOST_ASKED);
         peers.begin_without_threads(durable, &cluster, control.clone());
         let clients = Clients::simulated(cluster.clone(), inlet.clone(), executor, control);
-        Serving {
+        SimulatedServer {
             cluster,
             inlet,
             clients: Some(clients),
@@ -124,7 +124,7 @@ fn by(clock: &MachineClock) -> Clock {
     Clock::new(move || clock.now())
 }
 
-impl Serving {
+impl SimulatedServer {
     /// Takes a client's connection by this line.
     pub fn accept(&mut self, line: SharedLine) {
         let from = SocketAddr::from((Ipv4Addr::LOCALHOST, 1));
