@@ -7,6 +7,9 @@ use super::outbound_message::OutboundMessage;
 use super::read_buffer::ReadBuffer;
 use super::write_buffer::WriteBuffer;
 use super::{Closer, Host, Identity};
+use durkenzo_driver::Live;
+use durkenzo_store::Revision;
+use std::cmp::Ordering;
 use std::collections::{BTreeMap, VecDeque};
 use std::io;
 use std::sync::{Arc, Condvar, Mutex, MutexGuard, PoisonError};
@@ -61,6 +64,10 @@ pub(super) struct LinkState<H: Host> {
     version: u8,
     /// Since when the server isn't there, if it isn't.
     gone: Option<Instant>,
+    /// The revision at which the server joined, as seen last; and as seen when the connection was begun, or its process
+    /// was last seen to have the server.
+    seen: Revision,
+    joined: Revision,
     /// Whether a connection is there, or is being made.
     is_begun: bool,
     is_broken: bool,
@@ -102,6 +109,8 @@ impl<H: Host> Default for LinkState<H> {
             pause: FIRST_PAUSE,
             version: VERSION,
             gone: None,
+            seen: Revision::NEVER,
+            joined: Revision::NEVER,
             is_begun: false,
             is_broken: false,
             is_over: false,
@@ -142,16 +151,29 @@ impl<H: Host> LinkState<H> {
         !self.is_over && !self.is_broken
     }
 
-    /// Ends the connection at once if the server has a later process, and after a while if it has none.
-    fn follow(&mut self, now: Instant, process: Option<u64>) {
-        let gone = *self.gone.get_or_insert(now);
-        if process.is_some() {
-            self.gone = None;
+    /// Ends the connection at once if another process has got the server since, and after a while if none has it.
+    fn follow(&mut self, now: Instant, live: Option<&Live>) {
+        let Some(live) = live else {
+            let gone = *self.gone.get_or_insert(now);
+            if gone + LAST <= now {
+                self.end();
+            }
+            return;
+        };
+        self.gone = None;
+        self.seen = live.joined;
+        // A process with a smaller number may have lost the server and got it again. Or the connection's process has
+        // just got it, and isn't seen yet: then nobody has joined since the connection was begun.
+        match live.process.cmp(&self.process) {
+            Ordering::Equal => self.joined = live.joined,
+            Ordering::Less if live.joined <= self.joined => {}
+            Ordering::Less | Ordering::Greater => self.end(),
         }
-        let is_other = process.is_some_and(|it| it > self.process);
-        if is_other || process.is_none() && gone + LAST <= now {
-            self.closer.iter().for_each(|it| it.end());
-        }
+    }
+
+    /// Ends the connection, if there is one.
+    fn end(&self) {
+        self.closer.iter().for_each(|it| it.end());
     }
 
     /// Takes the messages that have waited too long to be sent. No process has seen them.
@@ -244,11 +266,11 @@ impl<H: Host> Link<H> {
         Ok(())
     }
 
-    /// Ends the connection if the server hasn't been there for a while, or has another process. `process` is the number
-    /// of the one that is there. Returns the messages that weren't sent or answered in time, which are given up.
-    pub(super) fn tick(&self, now: Instant, process: Option<u64>) -> GivenUp<H> {
+    /// Ends the connection if the server, as it is seen now, hasn't been there for a while, or has another process.
+    /// Returns the messages that weren't sent or answered in time, which are given up.
+    pub(super) fn tick(&self, now: Instant, live: Option<&Live>) -> GivenUp<H> {
         let mut state = self.state();
-        state.follow(now, process);
+        state.follow(now, live);
         let unsent = state.take_due(now);
         let why = match &state.unreached {
             Some(why) if !unsent.is_empty() => why.clone(),
@@ -264,14 +286,14 @@ impl<H: Host> Link<H> {
 
     /// Ends the connection. The outcomes of sent messages aren't told.
     pub(super) fn cut(&self) {
-        self.state().closer.iter().for_each(|it| it.end());
+        self.state().end();
     }
 
     /// Ends it for good.
     pub(super) fn stop(&self) {
         let mut state = self.state();
         state.is_over = true;
-        state.closer.iter().for_each(|it| it.end());
+        state.end();
         drop(state);
         self.woken.notify_all();
     }
@@ -284,6 +306,7 @@ impl<H: Host> Link<H> {
     pub(super) fn begin(&self) -> u8 {
         let mut state = self.state();
         state.is_begun = true;
+        state.joined = state.seen;
         state.version
     }
 
@@ -437,7 +460,8 @@ mod tests {
     use super::super::trial::{TestDestination, TestReason, TestRequest};
     use super::super::{ForwardedRequest, WireFault};
     use super::*;
-    use std::sync::atomic::Ordering;
+    use durkenzo_driver::Addresses;
+    use std::sync::atomic::Ordering::Relaxed;
     use std::sync::mpsc::Receiver;
 
     const WAIT: Duration = Duration::from_secs(1);
@@ -484,9 +508,9 @@ mod tests {
         let _sent = asked(&link);
         assert_eq!(sent(&link).0, [1]);
         let waits = asked(&link);
-        assert!(link.tick(moment(0), Some(1)).unsent.is_empty());
+        assert!(link.tick(moment(0), Some(&joined(1, 1))).unsent.is_empty());
         link.state().unreached = Some("its secret is another one".to_owned());
-        let given_up = link.tick(moment(1_000), Some(1));
+        let given_up = link.tick(moment(1_000), Some(&joined(1, 1)));
         assert_eq!((given_up.unsent.len(), given_up.unanswered.len()), (1, 0));
         let state = link.state();
         assert_eq!((state.bytes, state.asked.len()), (0, 1));
@@ -534,7 +558,7 @@ mod tests {
         assert_eq!(sent(&link).0, [1, 2, 3, 4, 5, 6, 7]);
         link.lose_all("it is gone", &links.inner);
         assert!(told.try_recv().is_err());
-        time.store(30, Ordering::Relaxed);
+        time.store(30, Relaxed);
         // There is no host, so each is refused when it goes on.
         links.tick();
         let told: Vec<_> = told.try_iter().collect();
@@ -550,15 +574,54 @@ mod tests {
         (link, closer)
     }
 
+    /// Returns the server with this process, which joined at that revision.
+    fn joined(process: u64, joined: u64) -> Live {
+        Live {
+            process,
+            followed: Revision::NEVER,
+            joined: Revision(joined),
+            addresses: Addresses::default(),
+        }
+    }
+
     #[test]
     fn a_connection_ends_once_another_process_has_the_server() {
         let (link, closer) = connected();
         // The view of others may be out of date compared with the process that a link has reached.
-        for process in [Some(7), Some(6)] {
-            link.tick(moment(0), process);
+        for live in [joined(7, 20), joined(6, 10)] {
+            link.tick(moment(0), Some(&live));
             assert!(!closer.is_ended());
         }
-        link.tick(moment(0), Some(8));
+        link.tick(moment(0), Some(&joined(8, 30)));
+        assert!(closer.is_ended());
+    }
+
+    #[test]
+    fn a_connection_ends_once_an_earlier_process_has_the_server_again() {
+        // Before the connection is made, process 6 or 7 is seen. Process 7 is reached, and may be seen later.
+        for (before, after) in [(6, None), (6, Some(7)), (7, None), (7, Some(7))] {
+            let (link, closer) = (idle(), Arc::new(TestCloser::default()));
+            let tick = |process, at| drop(link.tick(moment(0), Some(&joined(process, at))));
+            tick(before, 10);
+            link.begin();
+            link.note_reached(identity_of(7), closer.clone(), Duration::ZERO);
+            tick(before, 10);
+            after.into_iter().for_each(|it| tick(it, 20));
+            assert!(!closer.is_ended());
+            tick(6, 30);
+            assert!(closer.is_ended());
+        }
+    }
+
+    #[test]
+    fn an_earlier_process_that_has_the_server_again_is_seen_while_another_is_greeted() {
+        let (link, closer) = (idle(), Arc::new(TestCloser::default()));
+        link.tick(moment(0), Some(&joined(7, 20)));
+        link.begin();
+        link.tick(moment(0), Some(&joined(6, 30)));
+        link.note_reached(identity_of(7), closer.clone(), Duration::ZERO);
+        assert!(!closer.is_ended());
+        link.tick(moment(0), Some(&joined(6, 30)));
         assert!(closer.is_ended());
     }
 
@@ -569,7 +632,7 @@ mod tests {
         link.tick(now, None);
         link.tick(now + LAST / 2, None);
         assert!(!closer.is_ended());
-        link.tick(now + LAST / 2, Some(7));
+        link.tick(now + LAST / 2, Some(&joined(7, 1)));
         link.tick(now + LAST, None);
         assert!(!closer.is_ended());
         link.tick(now + 2 * LAST, None);
@@ -604,7 +667,7 @@ mod tests {
         let (link, inner) = (idle(), links_of(1, &time).inner);
         let need = |link: &Link<TestHost>| link.state().need(inner.now());
         let pass = |it: Duration| {
-            time.fetch_add(it.as_millis() as u64, Ordering::Relaxed);
+            time.fetch_add(it.as_millis() as u64, Relaxed);
         };
         assert_eq!(link.status(), LinkStatus::default());
         link.begin();
@@ -613,7 +676,7 @@ mod tests {
         pass(LOOK);
         link.tick(inner.now(), None);
         assert_eq!(need(&link), LinkNeed::Nothing(Some(inner.now() + LOOK)));
-        link.tick(inner.now(), Some(7));
+        link.tick(inner.now(), Some(&joined(7, 1)));
         assert_eq!(need(&link), LinkNeed::Connection);
         link.begin();
         let (identity, closer) = (identity_of(7), Arc::new(TestCloser::default()));

@@ -204,7 +204,7 @@ impl<H: Host> LinksInner<H> {
         let (links, members) = (locked(&self.links).clone(), self.member.members());
         self.peers.tick(now, &members);
         for (server, link) in links {
-            let given_up = link.tick(now, members.get(&server).map(|it| it.process));
+            let given_up = link.tick(now, members.get(&server));
             let why = given_up.why;
             let unsent = given_up.unsent.into_iter();
             unsent
