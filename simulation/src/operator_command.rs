@@ -24,6 +24,12 @@ impl OperatorCommand {
         is_awaited && self.told.is_none() && !self.is_over
     }
 
+    /// Returns whether the leader answered the command.
+    pub fn is_led(&self) -> bool {
+        let told = self.told.as_ref();
+        told.is_some_and(|it| !it.1.starts_with("REFUSED NotLeader"))
+    }
+
     /// Returns whether this restart was refused for good, although its server may still be stopped for it. If somebody
     /// else asked for a restart of the server by then, that one may go on, so this returns false.
     pub fn is_left(&self, all: &[OperatorCommand], store: &SharedStore) -> bool {

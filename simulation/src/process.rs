@@ -171,6 +171,13 @@ impl Process {
         }
     }
 
+    /// Returns whether the process has its server, as far as it sees. If it doesn't, another process replaced it.
+    pub fn is_member(&self) -> bool {
+        let members = self.member.members();
+        let own = members.get(&self.member.server());
+        own.is_some_and(|it| it.process == self.member.process())
+    }
+
     /// Returns whether the control has requests that it hasn't taken.
     pub fn is_asked(&self) -> bool {
         !self.inbox.lock().expect("no panic").is_empty()

@@ -22,6 +22,9 @@ const ROUND: u64 = 10;
 const BEGINNING: u64 = 1_000;
 const WELL: u64 = 4_000;
 const OVER: u64 = 8_000;
+/// How many rounds pass until each process has seen which one leads. A leader that can't go on tries again only after
+/// half a second, and may have been replaced meanwhile.
+const SEEING: u64 = 100;
 /// Operators look after the processes and shards once in this many rounds.
 const LOOKING: u64 = 300;
 /// A process is paused for less than this, in milliseconds.
@@ -245,8 +248,36 @@ impl World {
         if !self.passes_until(OVER, 0, World::is_over) {
             return self.find("all that is under way comes to its end", self.shown());
         }
+        self.judge_last_commands();
         self.judge_last_calls();
         self.rest();
+    }
+
+    /// Asks the control of each process that has its server. The leader must answer, because nothing fails any more,
+    /// and each process had time to see which one leads. A process that another one replaced finds no leader, so it
+    /// isn't asked.
+    fn judge_last_commands(&mut self) {
+        (0..SEEING).for_each(|_| self.pass_round());
+        let before = self.ledger.lock().expect("no panic").commands.len();
+        let words = ["SM", "RESUME", "0"].map(str::to_owned);
+        for place in 0..PROCESSES {
+            if self.processes[place]
+                .as_ref()
+                .is_some_and(Process::is_member)
+            {
+                self.ask_control(place, &words);
+            }
+        }
+        self.passes_until(OVER, 0, World::is_over);
+        let ledger = self.ledger.clone();
+        let ledger = ledger.lock().expect("no panic");
+        let unled = ledger.commands[before..].iter().find(|it| !it.is_led());
+        if let Some(unled) = unled {
+            self.find(
+                "the leader answers once nothing fails",
+                format!("{unled:?}"),
+            );
+        }
     }
 
     /// Makes a paused process go on. If a process was asked to stop, ends it.
