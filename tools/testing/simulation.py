@@ -11,7 +11,7 @@ from testing.library import is_there
 from testing.part import verdict
 from testing.program import tool
 
-BINDINGS = ("-p", "durkenzo-store-sys", "--features", "permits")
+BINDINGS = ("-p", "durkenzo-store-sys", "--features", "permits,relay")
 SIMULATION = ("-p", "simulation", "--release")
 # The same schedules on each machine, so that all machines find the same. They take 25 s of a processor.
 LIMITS = ("--seed", "1", "--schedules", "10000", "--seconds", "900")

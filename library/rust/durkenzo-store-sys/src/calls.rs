@@ -1,5 +1,5 @@
-//! The calls themselves, as C declares them. `durkenzo_store.h`, `durkenzo_control.h` and `durkenzo_permit.h` say what
-//! each one promises.
+//! The calls themselves, as C declares them. `durkenzo_store.h`, `durkenzo_relay.h`, `durkenzo_control.h` and
+//! `durkenzo_permit.h` say what each one promises.
 #![allow(missing_docs)]
 
 /// Room for a proved value.
@@ -190,6 +190,109 @@ extern "C" {
         room: usize,
     ) -> u32;
     pub fn durkenzo_server_close(server: *mut Handle);
+}
+
+/// The place of a request that was made; or, for a read, how many requests were made before it.
+#[cfg(feature = "relay")]
+#[repr(C)]
+#[derive(Clone, Copy, Default, Debug, PartialEq, Eq)]
+pub struct PlaceAnswer {
+    pub client: u64,
+    pub number: u64,
+    pub place: u64,
+}
+
+#[cfg(feature = "relay")]
+extern "C" {
+    pub fn durkenzo_relay(
+        relay: *mut Handle,
+        me: u16,
+        shard: u16,
+        count: u64,
+        batch_bytes: u64,
+        batch_requests: usize,
+        waiting: usize,
+        clients: usize,
+    ) -> u32;
+    pub fn durkenzo_relay_log_head(bytes: *const u8, length: usize, head: *mut Head) -> u32;
+    pub fn durkenzo_relay_part_read(relay: *mut Handle, bytes: *const u8, length: usize) -> u32;
+    pub fn durkenzo_relay_batch(relay: *mut Handle, bytes: *const u8, length: usize) -> u32;
+    pub fn durkenzo_relay_read(
+        relay: *mut Handle,
+        record: *const u8,
+        record_length: usize,
+        stood: u64,
+        head: *const u8,
+        head_length: usize,
+        logged: u64,
+    ) -> u32;
+    pub fn durkenzo_relay_append(
+        relay: *mut Handle,
+        record: *const u8,
+        record_length: usize,
+        stood: u64,
+        head: *const u8,
+        head_length: usize,
+        logged: u64,
+    ) -> u32;
+    pub fn durkenzo_relay_batch_count(relay: *mut Handle, batches: *mut u64) -> u32;
+    pub fn durkenzo_relay_record(
+        relay: *mut Handle,
+        record: *const u8,
+        length: usize,
+        stood: u64,
+    ) -> u32;
+    pub fn durkenzo_relay_take(
+        relay: *mut Handle,
+        client: u64,
+        number: u64,
+        from: u16,
+        hops: u8,
+        forgets: u64,
+        request: *const u8,
+        length: usize,
+        place: *mut u64,
+        forward: *mut Forward,
+    ) -> u32;
+    pub fn durkenzo_relay_flush(relay: *mut Handle, sends: *mut bool) -> u32;
+    pub fn durkenzo_relay_sending(
+        relay: *mut Handle,
+        numbers: *mut SentNumbers,
+        into: *mut u8,
+        room: usize,
+    ) -> u32;
+    pub fn durkenzo_relay_made(
+        relay: *mut Handle,
+        revision: u64,
+        made: *mut usize,
+        read: *mut usize,
+    ) -> u32;
+    pub fn durkenzo_relay_answer(relay: *mut Handle, at: usize, answer: *mut PlaceAnswer) -> u32;
+    pub fn durkenzo_relay_read_answer(
+        relay: *mut Handle,
+        at: usize,
+        answer: *mut PlaceAnswer,
+    ) -> u32;
+    pub fn durkenzo_relay_lost(relay: *mut Handle) -> u32;
+    pub fn durkenzo_relay_base(relay: *mut Handle, begins: *mut bool) -> u32;
+    pub fn durkenzo_relay_part(
+        relay: *mut Handle,
+        place: usize,
+        part: *mut PartNumbers,
+        into: *mut u8,
+        room: usize,
+    ) -> u32;
+    pub fn durkenzo_relay_parts_made(relay: *mut Handle) -> u32;
+    pub fn durkenzo_relay_is_behind(
+        relay: *mut Handle,
+        is_part: bool,
+        number: u64,
+        place: u64,
+        behind: *mut bool,
+    ) -> u32;
+    pub fn durkenzo_relay_clients(relay: *mut Handle, clients: *mut usize) -> u32;
+    pub fn durkenzo_relay_count(relay: *mut Handle, count: *mut u64) -> u32;
+    pub fn durkenzo_relay_close(relay: *mut Handle);
 }
 
 /// A command, or the next step: its kind, and the shard and server that it names.

@@ -1,5 +1,5 @@
 //! The proved servers and the proved control of a shared store, and permits. It has the calls that `durkenzo_store.h`,
-//! `durkenzo_control.h` and `durkenzo_permit.h` declare, and values that call them safely.
+//! `durkenzo_relay.h`, `durkenzo_control.h` and `durkenzo_permit.h` declare, and values that call them safely.
 //!
 //! ```
 //! use durkenzo_store_sys::{Decision, Limits, Server};
@@ -32,8 +32,12 @@ mod limits;
 #[cfg(feature = "permits")]
 #[allow(unsafe_code)]
 mod permit;
+#[cfg(feature = "relay")]
+#[allow(unsafe_code)]
+mod relay;
 #[allow(unsafe_code)]
 mod server;
+mod server_calls;
 
 pub use calls::{Head, Reply};
 pub use code::Code;
@@ -43,4 +47,11 @@ pub use director::{
 };
 #[cfg(feature = "permits")]
 pub use permit::{HandOver, ShardReading, ShardView};
-pub use server::{Base, Decision, Limits, Passing, Server, ServerRequest, ServerTransaction, Told};
+#[cfg(feature = "relay")]
+pub use relay::{PlaceAnswer, Relay};
+pub use server::{
+    Base, Decision, Limits, Passing, Server, ServerRequest, ServerTransaction, ShardServer, Told,
+};
+#[cfg(feature = "relay")]
+pub use server_calls::Places;
+pub use server_calls::{ServerCalls, Texts};

@@ -2,7 +2,9 @@ use crate::calls::{
     self, AnswerNumbers, Forward, Handle, Head, KeyNumbers, PartNumbers, Reply, SentNumbers,
 };
 use crate::limits::MAX_TEXT;
+use crate::server_calls::{ServerCalls, Texts};
 use crate::Code;
+use std::marker::PhantomData;
 
 /// A part of a base has at most this many bytes.
 const PART_BYTES: usize = 696_337;
@@ -68,11 +70,11 @@ pub struct ServerRequest<'a> {
     pub request: &'a [u8],
 }
 
-/// The decision on a request.
+/// The decision on a request, whose replies have this type.
 #[derive(Clone, Copy, Debug, PartialEq, Eq)]
-pub enum Decision {
+pub enum Decision<R = Reply> {
     /// The request is executed, and this is its reply.
-    Replied(Reply),
+    Replied(R),
     /// The request waits for the next transaction, or is in one.
     Waits,
     /// A later request of its client is executed.
@@ -132,35 +134,40 @@ pub enum Passing {
     Part(u64, u64),
 }
 
-/// The proved server of one shard. If a call can't be made, it returns a code. If `durkenzo_store.h` says nothing about
-/// going on after this code, you must make another server.
+/// The proved server of one shard of the sample service.
+pub type Server = ShardServer<Texts>;
+
+/// The proved server of one shard, of the service with these calls. If a call can't be made, it returns a code. If
+/// `durkenzo_store.h` says nothing about going on after this code, you must make another server.
 #[derive(Debug)]
-pub struct Server {
-    handle: Handle,
+pub struct ShardServer<C: ServerCalls> {
+    pub(crate) handle: Handle,
     room: Vec<u8>,
+    calls: PhantomData<C>,
 }
 
 // SAFETY: the library promises that a handle may pass from thread to thread. No other value has this handle.
-unsafe impl Send for Server {}
+unsafe impl<C: ServerCalls> Send for ShardServer<C> {}
 
-impl Drop for Server {
+impl<C: ServerCalls> Drop for ShardServer<C> {
     fn drop(&mut self) {
         // SAFETY: only this value uses the handle, and the handle is one of the library's or bytes of 0.
-        unsafe { calls::durkenzo_server_close(&mut self.handle) }
+        unsafe { C::CLOSE(&mut self.handle) }
     }
 }
 
 // SAFETY, of all calls below: only this value uses the handle, slices come with their lengths, and only the call uses
 // the memory that it writes.
-impl Server {
+impl<C: ServerCalls> ShardServer<C> {
     /// Makes server `me` of the shard, which is one of `count` shards. It has read nothing yet.
-    pub fn new(me: u16, shard: u16, count: u64, limits: Limits) -> Result<Server, Code> {
-        let mut server = Server {
+    pub fn new(me: u16, shard: u16, count: u64, limits: Limits) -> Result<ShardServer<C>, Code> {
+        let mut server = ShardServer {
             handle: Handle::empty(),
             room: Vec::new(),
+            calls: PhantomData,
         };
         Code::judged(unsafe {
-            calls::durkenzo_server(
+            C::NEW(
                 &mut server.handle,
                 me,
                 shard,
@@ -177,13 +184,13 @@ impl Server {
     /// Adds the next part that was read of the base.
     pub fn add_part(&mut self, bytes: &[u8]) -> Result<(), Code> {
         let (bytes, length) = (bytes.as_ptr(), bytes.len());
-        Code::judged(unsafe { calls::durkenzo_server_part_read(&mut self.handle, bytes, length) })
+        Code::judged(unsafe { C::PART_READ(&mut self.handle, bytes, length) })
     }
 
     /// Adds the next batch that was read.
     pub fn add_batch(&mut self, bytes: &[u8]) -> Result<(), Code> {
         let (bytes, length) = (bytes.as_ptr(), bytes.len());
-        Code::judged(unsafe { calls::durkenzo_server_batch(&mut self.handle, bytes, length) })
+        Code::judged(unsafe { C::BATCH(&mut self.handle, bytes, length) })
     }
 
     /// Tells the server that the shard was read: its record and the head of its log, each with its revision.
@@ -193,7 +200,7 @@ impl Server {
         (head, logged): (&[u8], u64),
     ) -> Result<(), Code> {
         Code::judged(unsafe {
-            calls::durkenzo_server_read(
+            C::READ(
                 &mut self.handle,
                 record.as_ptr(),
                 record.len(),
@@ -209,7 +216,7 @@ impl Server {
     pub fn batch_count(&mut self) -> Result<u64, Code> {
         let mut batches = 0;
         let handle = &mut self.handle;
-        Code::judged(unsafe { calls::durkenzo_server_batch_count(handle, &mut batches) })?;
+        Code::judged(unsafe { C::BATCH_COUNT(handle, &mut batches) })?;
         Ok(batches)
     }
 
@@ -223,7 +230,7 @@ impl Server {
         (head, logged): (&[u8], u64),
     ) -> Result<(), Code> {
         Code::judged(unsafe {
-            calls::durkenzo_server_append(
+            C::APPEND(
                 &mut self.handle,
                 record.as_ptr(),
                 record.len(),
@@ -238,16 +245,14 @@ impl Server {
     /// Tells the server that the record was seen. Requests that wait here must be given again.
     pub fn record(&mut self, record: &[u8], stood: u64) -> Result<(), Code> {
         let (bytes, length) = (record.as_ptr(), record.len());
-        Code::judged(unsafe {
-            calls::durkenzo_server_record(&mut self.handle, bytes, length, stood)
-        })
+        Code::judged(unsafe { C::RECORD(&mut self.handle, bytes, length, stood) })
     }
 
     /// Decides on a request.
-    pub fn take(&mut self, asked: &ServerRequest<'_>) -> Result<Decision, Code> {
-        let (mut reply, mut forward) = (Reply::default(), Forward::default());
+    pub fn take(&mut self, asked: &ServerRequest<'_>) -> Result<Decision<C::Reply>, Code> {
+        let (mut reply, mut forward) = (C::Reply::default(), Forward::default());
         let code = unsafe {
-            calls::durkenzo_server_take(
+            C::TAKE(
                 &mut self.handle,
                 asked.client,
                 asked.number,
@@ -276,7 +281,7 @@ impl Server {
     /// Allows waiting requests to be sent. Returns whether there is something to send now.
     pub fn flush(&mut self) -> Result<bool, Code> {
         let mut sends = false;
-        Code::judged(unsafe { calls::durkenzo_server_flush(&mut self.handle, &mut sends) })?;
+        Code::judged(unsafe { C::FLUSH(&mut self.handle, &mut sends) })?;
         Ok(sends)
     }
 
@@ -285,9 +290,7 @@ impl Server {
         let mut numbers = SentNumbers::default();
         loop {
             let (into, room) = (self.room.as_mut_ptr(), self.room.len());
-            let code = unsafe {
-                calls::durkenzo_server_sending(&mut self.handle, &mut numbers, into, room)
-            };
+            let code = unsafe { C::SENDING(&mut self.handle, &mut numbers, into, room) };
             match Code(code) {
                 Code::TOO_SHORT => self.grow_room(),
                 Code(code) => break Code::judged(code)?,
@@ -303,14 +306,86 @@ impl Server {
         })
     }
 
+    /// Tells the server that its transaction was made, at this revision. Returns how many answers to requests there are,
+    /// and how many to reads.
+    pub(crate) fn made_counts(&mut self, revision: u64) -> Result<(usize, usize), Code> {
+        let (mut made, mut read) = (0, 0);
+        let handle = &mut self.handle;
+        Code::judged(unsafe { C::MADE(handle, revision, &mut made, &mut read) })?;
+        Ok((made, read))
+    }
+
+    /// Tells the server that its transaction wasn't made, or isn't known to be made. The server decides nothing until
+    /// it has read or appended.
+    pub fn lost(&mut self) -> Result<(), Code> {
+        Code::judged(unsafe { C::LOST(&mut self.handle) })
+    }
+
+    /// Begins a base, whose parts must be written now. Returns `None` if no base begins.
+    pub fn base(&mut self) -> Result<Option<Base>, Code> {
+        let mut begins = false;
+        Code::judged(unsafe { C::BASE(&mut self.handle, &mut begins) })?;
+        if !begins {
+            return Ok(None);
+        }
+        let (first, bytes) = self.part(0)?;
+        let mut parts = vec![bytes];
+        for place in 1..first.count as usize {
+            parts.push(self.part(place)?.1);
+        }
+        let number = first.number;
+        Ok(Some(Base { number, parts }))
+    }
+
+    /// Returns the numbers of the base, and the bytes of its part at this place.
+    fn part(&mut self, place: usize) -> Result<(PartNumbers, Vec<u8>), Code> {
+        self.have_room(PART_BYTES);
+        let mut part = PartNumbers::default();
+        let (into, room) = (self.room.as_mut_ptr(), self.room.len());
+        Code::judged(unsafe { C::PART(&mut self.handle, place, &mut part, into, room) })?;
+        Ok((part, self.room[..part.length].to_vec()))
+    }
+
+    /// Tells the server that each part of the base was written.
+    pub fn parts_made(&mut self) -> Result<(), Code> {
+        Code::judged(unsafe { C::PARTS_MADE(&mut self.handle) })
+    }
+
+    /// Returns whether a batch, or a part of a base, is behind the base that the head names.
+    pub fn is_behind(&mut self, passing: Passing) -> Result<bool, Code> {
+        let (is_part, number, place) = match passing {
+            Passing::Batch(number) => (false, number, 0),
+            Passing::Part(number, place) => (true, number, place),
+        };
+        let (handle, mut behind) = (&mut self.handle, false);
+        Code::judged(unsafe { C::IS_BEHIND(handle, is_part, number, place, &mut behind) })?;
+        Ok(behind)
+    }
+
+    /// Returns of how many clients the last request is kept. If the shard wasn't read yet, that is 0.
+    pub fn clients(&mut self) -> Result<usize, Code> {
+        let mut clients = 0;
+        Code::judged(unsafe { C::CLIENTS(&mut self.handle, &mut clients) })?;
+        Ok(clients)
+    }
+
+    fn grow_room(&mut self) {
+        self.have_room((2 * self.room.len()).max(FIRST_ROOM));
+    }
+
+    fn have_room(&mut self, bytes: usize) {
+        if self.room.len() < bytes {
+            self.room.resize(bytes, 0);
+        }
+    }
+}
+
+// SAFETY, of all calls below: as above.
+impl Server {
     /// Tells the server that its transaction was made, at this revision. Returns the answers to requests, and those to
     /// reads.
     pub fn made(&mut self, revision: u64) -> Result<(Vec<Told>, Vec<Told>), Code> {
-        let (mut made, mut read) = (0, 0);
-        let handle = &mut self.handle;
-        Code::judged(unsafe {
-            calls::durkenzo_server_made(handle, revision, &mut made, &mut read)
-        })?;
+        let (made, read) = self.made_counts(revision)?;
         let told = (0..made)
             .map(|at| self.answer(at))
             .collect::<Result<_, _>>()?;
@@ -334,64 +409,6 @@ impl Server {
             calls::durkenzo_server_text(&mut self.handle, at, &mut answer, into, room)
         })?;
         Ok(told(&answer, &self.room[..answer.length]))
-    }
-
-    /// Tells the server that its transaction wasn't made, or isn't known to be made. The server decides nothing until
-    /// it has read or appended.
-    pub fn lost(&mut self) -> Result<(), Code> {
-        Code::judged(unsafe { calls::durkenzo_server_lost(&mut self.handle) })
-    }
-
-    /// Begins a base, whose parts must be written now. Returns `None` if no base begins.
-    pub fn base(&mut self) -> Result<Option<Base>, Code> {
-        let mut begins = false;
-        Code::judged(unsafe { calls::durkenzo_server_base(&mut self.handle, &mut begins) })?;
-        if !begins {
-            return Ok(None);
-        }
-        let (first, bytes) = self.part(0)?;
-        let mut parts = vec![bytes];
-        for place in 1..first.count as usize {
-            parts.push(self.part(place)?.1);
-        }
-        let number = first.number;
-        Ok(Some(Base { number, parts }))
-    }
-
-    /// Returns the numbers of the base, and the bytes of its part at this place.
-    fn part(&mut self, place: usize) -> Result<(PartNumbers, Vec<u8>), Code> {
-        self.have_room(PART_BYTES);
-        let mut part = PartNumbers::default();
-        let (into, room) = (self.room.as_mut_ptr(), self.room.len());
-        Code::judged(unsafe {
-            calls::durkenzo_server_part(&mut self.handle, place, &mut part, into, room)
-        })?;
-        Ok((part, self.room[..part.length].to_vec()))
-    }
-
-    /// Tells the server that each part of the base was written.
-    pub fn parts_made(&mut self) -> Result<(), Code> {
-        Code::judged(unsafe { calls::durkenzo_server_parts_made(&mut self.handle) })
-    }
-
-    /// Returns whether a batch, or a part of a base, is behind the base that the head names.
-    pub fn is_behind(&mut self, passing: Passing) -> Result<bool, Code> {
-        let (is_part, number, place) = match passing {
-            Passing::Batch(number) => (false, number, 0),
-            Passing::Part(number, place) => (true, number, place),
-        };
-        let (handle, mut behind) = (&mut self.handle, false);
-        Code::judged(unsafe {
-            calls::durkenzo_server_is_behind(handle, is_part, number, place, &mut behind)
-        })?;
-        Ok(behind)
-    }
-
-    /// Returns of how many clients the last request is kept. If the shard wasn't read yet, that is 0.
-    pub fn clients(&mut self) -> Result<usize, Code> {
-        let mut clients = 0;
-        Code::judged(unsafe { calls::durkenzo_server_clients(&mut self.handle, &mut clients) })?;
-        Ok(clients)
     }
 
     /// Returns how many keys have a value after all executed requests. If the shard wasn't read yet, that is 0.
@@ -441,16 +458,6 @@ impl Server {
             left = rest;
         }
         Ok(keys)
-    }
-
-    fn grow_room(&mut self) {
-        self.have_room((2 * self.room.len()).max(FIRST_ROOM));
-    }
-
-    fn have_room(&mut self, bytes: usize) {
-        if self.room.len() < bytes {
-            self.room.resize(bytes, 0);
-        }
     }
 }
 
