@@ -2,16 +2,9 @@ use durkenzo_store_sys::Code;
 use std::error::Error;
 use std::fmt;
 
-/// Why a proved server can't go on. It is closed, and another one reads the shard from the beginning.
+/// Why a call on the proved control failed.
 #[derive(Clone, Copy, Debug, PartialEq, Eq)]
 pub(crate) struct CoreFault(pub(crate) Code);
-
-impl CoreFault {
-    /// Returns whether the store's content is wrong. Then reading it again doesn't help.
-    pub(crate) fn is_damage(self) -> bool {
-        matches!(self.0, Code::BAD_BYTES | Code::BAD_LOG)
-    }
-}
 
 impl From<Code> for CoreFault {
     fn from(code: Code) -> CoreFault {

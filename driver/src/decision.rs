@@ -1,7 +1,8 @@
 use crate::MapReply;
 use durkenzo_store::Revision;
+use durkenzo_store_sys as sys;
 
-pub(crate) use durkenzo_store_sys::{Base, Passing};
+pub(crate) use durkenzo_store_sys::Passing;
 
 /// The decision of a proved server about a request.
 #[derive(Debug)]
@@ -35,6 +36,22 @@ pub(crate) struct ServerTransaction {
     pub(crate) number: u64,
     pub(crate) head: Vec<u8>,
     pub(crate) batch: Vec<u8>,
+}
+
+/// A base that a server writes.
+#[derive(Debug)]
+pub(crate) struct Base {
+    /// How many batches it stands for.
+    pub(crate) number: u64,
+    /// The bytes of its parts.
+    pub(crate) parts: Vec<Vec<u8>>,
+}
+
+impl From<sys::Base> for Base {
+    fn from(base: sys::Base) -> Base {
+        let sys::Base { number, parts } = base;
+        Base { number, parts }
+    }
 }
 
 /// The answer to a request that was made, or to a read.

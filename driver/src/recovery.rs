@@ -4,7 +4,8 @@
 use crate::decision::Passing;
 use crate::keys;
 use crate::proved::Core;
-use crate::{core_fault::CoreFault, StoredRecord};
+use crate::shard_service::ShardService;
+use crate::{ServerFault, StoredRecord};
 use durkenzo_store::{Pair, ReadError, Reading, Revision, Store};
 use durkenzo_store_sys::Head;
 
@@ -47,8 +48,8 @@ impl From<ReadError> for RecoveryFault {
     }
 }
 
-impl From<CoreFault> for RecoveryFault {
-    fn from(fault: CoreFault) -> RecoveryFault {
+impl From<ServerFault> for RecoveryFault {
+    fn from(fault: ServerFault) -> RecoveryFault {
         match fault.is_damage() {
             true => RecoveryFault::Damaged(fault.to_string()),
             false => RecoveryFault::Later,
@@ -150,6 +151,13 @@ pub(crate) struct ServerPlace {
     pub(crate) count: u16,
 }
 
+/// The store from which servers of a service read shards.
+#[derive(Clone, Copy)]
+pub(crate) struct Source<'a> {
+    pub(crate) store: &'a dyn Store,
+    pub(crate) service: &'a dyn ShardService,
+}
+
 /// A record and the head of a log as they were at one moment.
 struct Moment {
     record: (Vec<u8>, Revision),
@@ -161,20 +169,20 @@ struct Moment {
 /// batches that it lacks. If those are gone because a base has replaced them, it reads the base, as any other server
 /// does. After a long reading it goes on, so that it lacks little.
 pub(crate) fn recover(
-    store: &dyn Store,
+    source: Source<'_>,
     kept: Option<Core>,
     place: ServerPlace,
 ) -> Result<Recovered, Unrecovered> {
     let mut read = match kept {
-        Some(core) => read_on(store, core, place)?,
-        None => read_whole(store, place)?,
+        Some(core) => read_on(source, core, place)?,
+        None => read_whole(source, place)?,
     };
     let mut cost = read.log.cost();
     for _ in 0..MORE {
-        if cost <= FEW_BYTES || !has_less(store, &mut read.core, place.shard, cost) {
+        if cost <= FEW_BYTES || !has_less(source.store, &mut read.core, place.shard, cost) {
             break;
         }
-        let more = read_on(store, read.core, place)?;
+        let more = read_on(source, read.core, place)?;
         cost = more.log.cost();
         read = Recovered {
             log: read.log.and(more.log),
@@ -197,10 +205,10 @@ fn has_less(store: &dyn Store, core: &mut Core, shard: u16, cost: u64) -> bool {
 }
 
 /// Returns the server once it has read what it lacks, or the whole shard if that is gone.
-fn read_on(store: &dyn Store, core: Core, place: ServerPlace) -> Result<Recovered, Unrecovered> {
-    match caught_up(store, core, place.shard)? {
+fn read_on(source: Source<'_>, core: Core, place: ServerPlace) -> Result<Recovered, Unrecovered> {
+    match caught_up(source.store, core, place.shard)? {
         Some(recovered) => Ok(recovered),
-        None => Ok(read_whole(store, place)?),
+        None => Ok(read_whole(source, place)?),
     }
 }
 
@@ -212,7 +220,7 @@ fn moment(store: &dyn Store, shard: u16) -> Result<Moment, RecoveryFault> {
         found(&reading, &record, &keys::VACANT),
         found(&reading, &head, &keys::EMPTY),
     );
-    let named = Head::of(&head.0).map_err(CoreFault)?;
+    let named = Head::of(&head.0).map_err(ServerFault::Code)?;
     Ok(Moment {
         record,
         head,
@@ -234,15 +242,11 @@ fn read_batches(
 }
 
 /// Returns a server that has read all of the shard.
-fn read_whole(store: &dyn Store, place: ServerPlace) -> Result<Recovered, RecoveryFault> {
-    let ServerPlace {
-        server,
-        shard,
-        count,
-    } = place;
+fn read_whole(source: Source<'_>, place: ServerPlace) -> Result<Recovered, RecoveryFault> {
+    let (store, shard) = (source.store, place.shard);
     let now = moment(store, shard)?;
     let named = now.named;
-    let mut core = Core::new(server, shard, count)?;
+    let mut core = source.service.server(place)?;
     let part = |place| keys::part(shard, named.base, place);
     let (from, end) = (part(0), part(named.parts));
     let base = each(store, from, &end, PARTS, |it| core.add_part(&it.value))?;
@@ -320,7 +324,7 @@ fn each(
     mut from: Vec<u8>,
     end: &[u8],
     first: u64,
-    mut give: impl FnMut(&Pair) -> Result<(), CoreFault>,
+    mut give: impl FnMut(&Pair) -> Result<(), ServerFault>,
 ) -> Result<u64, RecoveryFault> {
     let (mut bytes, mut most) = (0, first);
     while from.as_slice() < end {
@@ -333,7 +337,7 @@ fn each(
         };
         let size = pairs.iter().try_fold(0, |size, pair| {
             give(pair)?;
-            Ok::<_, CoreFault>(size + pair.value.len() as u64)
+            Ok::<_, ServerFault>(size + pair.value.len() as u64)
         })?;
         bytes += size;
         match pairs.last().filter(|_| pairs.len() as u64 == most) {
@@ -353,7 +357,7 @@ fn each(
 pub(crate) fn passing(store: &dyn Store, shard: u16) -> Result<Vec<Passing>, RecoveryFault> {
     let key = keys::head(shard);
     let reading = store.read(&[&key])?;
-    let named = Head::of(&found(&reading, &key, &keys::EMPTY).0).map_err(CoreFault)?;
+    let named = Head::of(&found(&reading, &key, &keys::EMPTY).0).map_err(ServerFault::Code)?;
     let [from, end] = keys::bases(shard);
     let parts = store.read_keys(&from, &end)?;
     let parts = parts.iter().filter_map(|it| keys::base_and_place(it));

@@ -4,6 +4,7 @@ use super::watches::written;
 use super::{ShardOptions, STOP};
 use crate::clock::Clock;
 use crate::shard::{Action, Shard, Ticket};
+use crate::shard_service::ShardService;
 use crate::{keys, Acks, Member, NotDone, Own, StoredRecord};
 use durkenzo_store::{Outcome, Room, Seen, Store, Transaction, WriteError};
 use std::collections::BTreeSet;
@@ -15,6 +16,7 @@ use std::time::Instant;
 /// The shards of a process, shared by everybody who works with them.
 pub(crate) struct DurableInner {
     pub(super) store: Arc<dyn Store>,
+    pub(super) service: Arc<dyn ShardService>,
     pub(super) clock: Clock,
     pub(super) shards: Box<[Mutex<Shard>]>,
     /// The shards at which something may wait, or become due.

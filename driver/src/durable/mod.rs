@@ -17,6 +17,7 @@ pub use shard_options::{Reads, ShardOptions};
 
 use crate::clock::Clock;
 use crate::shard::Shard;
+use crate::shard_service::{ShardService, Texts};
 use crate::stored_record::takes_part;
 use crate::{
     process, Came, Chores, CompactFault, Elsewhere, Member, NotDone, OpenFault, Own, Ownership,
@@ -62,7 +63,8 @@ impl Durable {
         on_change: Box<dyn Fn() + Send + Sync>,
     ) -> Result<Durable, OpenFault> {
         let process = process::begin(&*store)?;
-        Durable::begin(store, shards, shard_options, (process, None), on_change)
+        let served = (store, Arc::new(Texts) as Arc<_>);
+        Durable::begin(served, shards, shard_options, (process, None), on_change)
     }
 
     /// Opens the shards of this store. This process has one server of them, and other processes have the others.
@@ -80,7 +82,7 @@ impl Durable {
     ) -> Result<Durable, OpenFault> {
         let process = own.member.process();
         Durable::begin(
-            store,
+            (store, Arc::new(Texts)),
             shards,
             shard_options,
             (process, Some(own)),
@@ -89,7 +91,7 @@ impl Durable {
     }
 
     fn begin(
-        store: Arc<dyn Store>,
+        served: (Arc<dyn Store>, Arc<dyn ShardService>),
         shards: u16,
         shard_options: ShardOptions,
         own: (u64, Option<Own>),
@@ -97,7 +99,7 @@ impl Durable {
     ) -> Result<Durable, OpenFault> {
         let clock = Clock::default();
         let (mut durable, handed) =
-            Durable::idle(store, shards, shard_options, own, (clock, on_change))?;
+            Durable::idle(served, shards, shard_options, own, (clock, on_change))?;
         durable.threads = threads(&durable.inner, handed)?;
         Ok(durable)
     }
@@ -120,14 +122,15 @@ impl Durable {
         let own = (own.member.process(), Some(own));
         let on_change = Box::new(|| {});
         let by = (clock, on_change as Box<_>);
-        let (durable, handed) = Durable::idle(store, shards, shard_options, own, by)?;
+        let served = (store, Arc::new(Texts) as Arc<_>);
+        let (durable, handed) = Durable::idle(served, shards, shard_options, own, by)?;
         let chores = Chores::new(durable.inner.clone(), handed);
         Ok((durable, chores))
     }
 
     /// Returns the shards, without threads yet, and the queue of the threads' readings.
     fn idle(
-        store: Arc<dyn Store>,
+        (store, service): (Arc<dyn Store>, Arc<dyn ShardService>),
         shards: u16,
         shard_options: ShardOptions,
         (process, own): (u64, Option<Own>),
@@ -142,6 +145,7 @@ impl Durable {
         let keeps_room = store.left().is_some();
         let inner = Arc::new(DurableInner {
             store,
+            service,
             clock,
             shards: (0..shards).map(each).collect(),
             stirred: (0..shards).map(|_| AtomicBool::new(true)).collect(),

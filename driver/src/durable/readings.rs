@@ -1,7 +1,7 @@
 //! The readings of the store for shards, and the numbers of the process.
 use super::durable_inner::{locked, DurableInner};
 use super::reader_job::{ReadBack, ReaderJob};
-use crate::recovery::ServerPlace;
+use crate::recovery::{ServerPlace, Source};
 use crate::shard::{Action, Shard};
 use crate::{keys, process, recovery, StoredRecord};
 use std::sync::atomic::Ordering;
@@ -57,7 +57,11 @@ impl DurableInner {
                     shard,
                     count: self.shards.len() as u16,
                 };
-                let read = recovery::recover(&*self.store, kept, place);
+                let source = Source {
+                    store: &*self.store,
+                    service: &*self.service,
+                };
+                let read = recovery::recover(source, kept, place);
                 inner.told(shard, move |it, now, actions| {
                     it.on_read(ticket, read, now, actions);
                 })

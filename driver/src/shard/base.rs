@@ -233,9 +233,9 @@ impl Shard {
 #[allow(clippy::disallowed_methods)]
 mod tests {
     use super::*;
-    use crate::proved::Core;
-    use crate::recovery::ServerPlace;
+    use crate::recovery::{ServerPlace, Source};
     use crate::shard::Revisions;
+    use crate::shard_service::{ShardService, Texts};
     use crate::work::WorkOutcome;
     use crate::{
         recovery, Begin, ControlCommand, Durable, DurableControl, MapReply, MapRequest, NotDone,
@@ -258,6 +258,11 @@ mod tests {
         count: 1,
     };
 
+    fn source(store: &dyn Store) -> Source<'_> {
+        let service = &Texts;
+        Source { store, service }
+    }
+
     /// Returns a store with a shard of server 1.
     fn written() -> Arc<dyn Store> {
         let store: Arc<dyn Store> = Arc::new(Embedded::in_memory());
@@ -271,7 +276,7 @@ mod tests {
     fn a_base_ends_where_its_server_reads_anew() {
         let (store, now) = (written(), Instant::now());
         let mut shard = Shard::new(0, 1, None, ShardOptions::default());
-        let read = recovery::recover(&*store, None, PLACE)
+        let read = recovery::recover(source(&*store), None, PLACE)
             .map_err(|it| it.fault)
             .unwrap();
         let (bytes, stood) = (read.stored.bytes().to_vec(), read.stored.revision());
@@ -303,7 +308,7 @@ mod tests {
         let (stood, logged) = (pair.revision, Revision::NEVER);
         shard.see(StoredRecord::new(pair.value, stood), now, &mut actions);
         // A server that has read nothing refuses to list.
-        let core = Core::new(1, 0, 1).unwrap();
+        let core = Texts.server(PLACE).unwrap();
         let ready = ReplicaState::Ready(core, Revisions { stood, logged });
         shard.replicas.insert(1, ready);
         shard.base = Some((1, BaseProgress::Writes(2)));
@@ -359,7 +364,7 @@ mod tests {
                     shard.on_outcome(ticket, outcome, now, &mut actions);
                 }
                 Action::Read(ticket, kept) => {
-                    let read = recovery::recover(store, kept, PLACE);
+                    let read = recovery::recover(source(store), kept, PLACE);
                     shard.on_read(ticket, read, now, &mut actions);
                 }
                 Action::WriteBase(ticket, _) => shard.on_base(ticket, true, now, &mut actions),

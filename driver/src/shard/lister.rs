@@ -2,7 +2,7 @@ use super::replica_state::{ReplicaState, Revisions};
 use crate::key_list::{Found, KeyList};
 use crate::proved::Core;
 use crate::work::Begin;
-use crate::{CoreFault, Key, Range};
+use crate::{Key, Range, ServerFault};
 
 /// The server that executes, while it lists keys for the steps of a round. Its map is the one after all requests that
 /// were made, up to the head at its revision.
@@ -52,7 +52,7 @@ impl Lister {
         Some(KeyList::new(self.server, logged, found.ok()?))
     }
 
-    fn keys(&mut self, range: &Range) -> Result<Vec<Key>, CoreFault> {
+    fn keys(&mut self, range: &Range) -> Result<Vec<Key>, ServerFault> {
         let Range { low, high, most } = range;
         self.core
             .scan(low, high.as_deref(), (*most).min(Range::MOST))

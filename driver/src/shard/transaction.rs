@@ -1,12 +1,12 @@
 use super::base::BaseProgress;
 use super::{Action, ReplicaState, Revisions, Shard, Ticket, TransactionPayload};
-use crate::core_fault::CoreFault;
 use crate::decision::ServerTransaction;
 use crate::keys;
 use crate::lease_clock::Moment;
 use crate::proved::Core;
 use crate::round::Round;
 use crate::work::NotDone;
+use crate::ServerFault;
 use durkenzo_store::{Outcome, Revision, Transaction, WriteError};
 use std::time::Instant;
 
@@ -165,7 +165,7 @@ impl Shard {
         &mut self,
         core: &mut Core,
         revision: Revision,
-    ) -> Result<u64, CoreFault> {
+    ) -> Result<u64, ServerFault> {
         let answers = core.made(revision)?;
         let count = answers.len() as u64;
         let Some(round) = &mut self.round else {
