@@ -6,7 +6,7 @@ const NO_SERVER: u16 = 0;
 /// The first byte at an intent's key.
 const VERSION: u8 = 1;
 
-/// An intent of the control: work with which each leader goes on, and that no record or state tells.
+/// An intent of the control: work with which each leader goes on, or what it heeds, and that no record or state tells.
 #[derive(Clone, Copy, Debug, PartialEq, Eq)]
 pub enum Intent {
     /// The server's shards go elsewhere.
@@ -15,6 +15,8 @@ pub enum Intent {
     Spread,
     /// The shard comes home to the server, which it left for a restart of that server.
     Home(u16, u16),
+    /// The server was drained: no shard goes there unless somebody asks for that.
+    Drained(u16),
 }
 
 impl Intent {
@@ -24,13 +26,14 @@ impl Intent {
             Intent::Drain(server) => keys::drain(server),
             Intent::Spread => keys::drain(NO_SERVER),
             Intent::Home(shard, _) => keys::home(shard),
+            Intent::Drained(server) => keys::drained(server),
         }
     }
 
     /// Returns the bytes at its key.
     pub(crate) fn bytes(self) -> Vec<u8> {
         match self {
-            Intent::Drain(_) | Intent::Spread => vec![VERSION],
+            Intent::Drain(_) | Intent::Spread | Intent::Drained(_) => vec![VERSION],
             Intent::Home(_, server) => [&[VERSION][..], &server.to_be_bytes()].concat(),
         }
     }
@@ -38,15 +41,18 @@ impl Intent {
     /// Returns the intent with this key and these bytes, if they are valid.
     pub(crate) fn of(key: &[u8], bytes: &[u8]) -> Option<Intent> {
         let (version, rest) = bytes.split_first()?;
-        match (keys::server_of_drain(key), keys::shard_of_home(key)) {
-            _ if *version != VERSION => None,
-            (Some(NO_SERVER), _) => rest.is_empty().then_some(Intent::Spread),
-            (Some(server), _) => rest.is_empty().then_some(Intent::Drain(server)),
-            (_, Some(shard)) => {
-                let server = rest.try_into().ok().map(u16::from_be_bytes)?;
-                Some(Intent::Home(shard, server))
-            }
-            _ => None,
+        if *version != VERSION {
+            return None;
         }
+        if let Some(shard) = keys::shard_of_home(key) {
+            let server = rest.try_into().ok().map(u16::from_be_bytes)?;
+            return Some(Intent::Home(shard, server));
+        }
+        let intent = match keys::server_of_drain(key) {
+            Some(NO_SERVER) => Intent::Spread,
+            Some(server) => Intent::Drain(server),
+            None => Intent::Drained(keys::server_of_drained(key)?),
+        };
+        rest.is_empty().then_some(intent)
     }
 }

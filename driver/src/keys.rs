@@ -12,6 +12,7 @@
 //! | `commands` | the process that sent the latest command |
 //! | `state/SERVER` | how far a server's restart has come, and the process to which that applies |
 //! | `drain/SERVER` | the intent that the server's shards go to others, until they have |
+//! | `drained/SERVER` | that the server was drained, and gets no shard unless somebody asks for that |
 //! | `home/SHARD` | the server to which the shard comes home, because it left for that server's restart |
 //! | `record/SHARD` | the servers that execute the shard |
 //! | `head/SHARD` | how many batches its log has, and the base that replaces the first of them |
@@ -42,6 +43,8 @@ pub(crate) const LOWESTS: &[u8] = b"lowest/";
 pub(crate) const STATES: &[u8] = b"state/";
 /// The prefix of the keys of servers that are to be drained.
 pub const DRAINS: &[u8] = b"drain/";
+/// The prefix of the keys of servers that were drained.
+pub const DRAINED: &[u8] = b"drained/";
 /// The prefix of the keys of shards that come home.
 pub const HOMES: &[u8] = b"home/";
 
@@ -94,6 +97,11 @@ pub(crate) fn server_of_state(key: &[u8]) -> Option<u16> {
 /// Returns the server of this key, if it is the key of a server that is to be drained.
 pub(crate) fn server_of_drain(key: &[u8]) -> Option<u16> {
     number_behind(key, DRAINS)
+}
+
+/// Returns the server of this key, if it is the key of a server that was drained.
+pub(crate) fn server_of_drained(key: &[u8]) -> Option<u16> {
+    number_behind(key, DRAINED)
 }
 
 /// Returns the shard of this key, if it is the key of a shard that comes home.
@@ -149,6 +157,11 @@ pub(crate) fn state(server: u16) -> Vec<u8> {
 /// Returns the key of a server that is to be drained.
 pub(crate) fn drain(server: u16) -> Vec<u8> {
     format!("drain/{server:05}").into_bytes()
+}
+
+/// Returns the key of a server that was drained.
+pub(crate) fn drained(server: u16) -> Vec<u8> {
+    format!("drained/{server:05}").into_bytes()
 }
 
 /// Returns the key of a shard that comes home.

@@ -84,6 +84,11 @@ fn intents_lie_there_until_they_are_withdrawn() {
     control.withdraw(&[Intent::Drain(2)]).unwrap();
     control.withdraw(&[]).unwrap();
     assert_intents(&mut control, &[]);
+    control
+        .intend(&[Intent::Drain(2), Intent::Drained(2)])
+        .unwrap();
+    control.withdraw(&[Intent::Drain(2)]).unwrap();
+    assert_intents(&mut lead(), &[Intent::Drained(2)]);
 }
 
 #[test]

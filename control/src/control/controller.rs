@@ -46,6 +46,9 @@ pub struct Controller {
     /// The servers that are drained for good, or wait for that. While a spread goes on, it also has those whose drains
     /// have ended.
     pub(super) drained: BTreeSet<u16>,
+    /// The servers that were drained, where that outlives the process. They get no shard unless somebody asks for that,
+    /// until a spread or `SM UNDRAIN`.
+    pub(super) kept_empty: BTreeSet<u16>,
     /// The other processes, if this one leads several.
     pub(super) peers: Option<Arc<dyn OtherControls>>,
     /// Whether another process leads, as far as a command's outcome has shown.
@@ -73,6 +76,7 @@ impl Controller {
             restarting: BTreeMap::new(),
             draining: None,
             drained: BTreeSet::new(),
+            kept_empty: BTreeSet::new(),
             peers: None,
             is_lost: false,
             has_fallen: false,
@@ -522,12 +526,19 @@ impl Controller {
     /// Ends the drain of the server, and lets another one go on.
     fn end_drain(&mut self, server: u16) {
         self.draining = self.draining.filter(|it| *it != server);
-        self.host.note_progress(server, None);
+        self.tell_end(server);
+    }
+
+    /// Notes that no work is under way at the server any more.
+    pub(super) fn tell_end(&self, server: u16) {
+        let is_drained = self.kept_empty.contains(&server);
+        let doing = is_drained.then_some(Doing::Drained);
+        self.host.note_progress(server, doing);
     }
 
     /// Ends the notes about the server's restart.
     pub(super) fn end_restart(&mut self, server: u16) {
-        self.host.note_progress(server, None);
+        self.tell_end(server);
         let left = self.restarting.remove(&server).unwrap_or_default();
         if left > 1 {
             self.restarting.insert(server, left - 1);

@@ -256,6 +256,9 @@ impl Drain {
         if let Some(shard) = left.first().filter(|_| is_for_good) {
             return Err(Refusal::no_room(*shard));
         }
+        if !self.is_restart {
+            control.keep_empty(self.server)?;
+        }
         if control.peers.is_some() {
             // Those that were under way at the same time ended in any order.
             self.moved.sort_unstable();
@@ -318,10 +321,14 @@ impl Drain {
             };
         }
         if !self.has_intended {
-            let intended = control.backend.intend(&[Intent::Drain(self.server)]);
+            let intents = [Intent::Drain(self.server), Intent::Drained(self.server)];
+            let intended = control.backend.intend(&intents);
             let may_lie = intended.as_ref().err().is_none_or(BackendFault::is_unknown);
             // If an earlier attempt may have kept it, a later one doesn't undo that.
             self.is_intended |= may_lie && control.backend.lasts();
+            if self.is_intended {
+                control.kept_empty.insert(self.server);
+            }
             intended?;
             self.has_intended = true;
         }

@@ -1,5 +1,5 @@
 //! Shards that come home to the servers that they left for a restart, or because these failed. Their list is an intent
-//! of the control.
+//! of the control. So is that of the servers that were drained.
 use super::controller::Controller;
 use super::task::Task;
 use super::Refusal;
@@ -23,7 +23,7 @@ impl Controller {
                 Intent::Spread if !self.tasks.iter().any(Task::spreads) => {
                     self.tasks.push(Task::spread());
                 }
-                Intent::Drain(_) | Intent::Spread | Intent::Home(..) => {}
+                Intent::Drain(_) | Intent::Spread | Intent::Home(..) | Intent::Drained(_) => {}
             }
         }
         let servers: BTreeSet<u16> = self.homes.values().copied().collect();
@@ -31,14 +31,16 @@ impl Controller {
         Ok(())
     }
 
-    /// Notes the homes that are intended, and the servers that are drained. Returns the other intents: drains, and a
-    /// spread. Intents about servers that were removed are withdrawn.
+    /// Notes the homes that are intended, and the servers that are or were drained. Returns the other intents: drains,
+    /// and a spread. Intents about servers that were removed are withdrawn.
     pub(super) fn note_homes(&mut self) -> Result<Vec<Intent>, Refusal> {
         let (mut others, mut gone) = (Vec::new(), Vec::new());
         let servers = self.backend.servers();
         for intent in self.backend.intents()? {
             match intent {
-                Intent::Drain(server) | Intent::Home(_, server) if server > servers => {
+                Intent::Drain(server) | Intent::Home(_, server) | Intent::Drained(server)
+                    if server > servers =>
+                {
                     gone.push(intent);
                 }
                 Intent::Drain(server) => {
@@ -47,6 +49,10 @@ impl Controller {
                 }
                 Intent::Spread => others.push(intent),
                 Intent::Home(shard, server) => drop(self.homes.insert(shard, server)),
+                Intent::Drained(server) => {
+                    self.kept_empty.insert(server);
+                    self.tell_end(server);
+                }
             }
         }
         self.withdraw_of_gone(&gone);
@@ -155,6 +161,7 @@ impl Controller {
         self.is_lost |= made.as_ref().is_err_and(Refusal::is_of_leader);
         made?;
         self.forget_homes_of_gone();
+        self.forget_drained_of_gone();
         for server in 1..=self.backend.servers() {
             // The settings are in force. A server's state is also noted at its next step.
             if let Err(refusal) = self.note_state(server) {
@@ -172,6 +179,48 @@ impl Controller {
         let gone: Vec<Intent> = gone.map(|it| Intent::Home(*it.0, *it.1)).collect();
         self.withdraw_of_gone(&gone);
         self.homes.retain(|_, home| *home <= servers);
+    }
+
+    /// Keeps that the server was drained, if that outlives the process.
+    pub(super) fn keep_empty(&mut self, server: u16) -> Result<(), Refusal> {
+        if self.backend.lasts() && !self.kept_empty.contains(&server) {
+            self.backend.intend(&[Intent::Drained(server)])?;
+            self.kept_empty.insert(server);
+        }
+        Ok(())
+    }
+
+    /// Makes all servers get shards like others that were drained before. That leaves out those whose drain isn't over,
+    /// or began during a spread that isn't over.
+    pub(super) fn undrain_all(&mut self) -> Result<(), Refusal> {
+        let drained = self.kept_empty.difference(&self.drained);
+        drained
+            .copied()
+            .collect::<Vec<_>>()
+            .into_iter()
+            .try_for_each(|it| self.undrain(it))
+    }
+
+    /// Makes the server get shards like others, if it was drained.
+    pub(super) fn undrain(&mut self, server: u16) -> Result<(), Refusal> {
+        if self.kept_empty.contains(&server) {
+            self.backend.withdraw(&[Intent::Drained(server)])?;
+            self.kept_empty.remove(&server);
+            let is_under_way = |it: &Task| it.work.server() == Some(server);
+            if !self.tasks.iter().any(is_under_way) {
+                self.tell_end(server);
+            }
+        }
+        Ok(())
+    }
+
+    /// Forgets that servers were drained that were removed.
+    fn forget_drained_of_gone(&mut self) {
+        let servers = self.backend.servers();
+        let gone = self.kept_empty.iter().filter(|it| **it > servers);
+        let gone: Vec<Intent> = gone.copied().map(Intent::Drained).collect();
+        self.withdraw_of_gone(&gone);
+        self.kept_empty.retain(|it| *it <= servers);
     }
 
     /// Makes these shards stay at the servers to which somebody moves them.

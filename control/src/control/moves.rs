@@ -186,6 +186,7 @@ impl Moves {
 #[cfg(test)]
 mod tests {
     use super::super::plain_backend::{asked, PlainBackend, Told};
+    use super::super::progress::Doing;
     use super::super::ControlAnswer;
     use super::*;
     use durkenzo::Stand;
@@ -301,6 +302,55 @@ mod tests {
         control.note_homes().unwrap();
         control.have_come_home(0, 1).unwrap();
         assert!(control.shards_of_home(1).is_empty());
+    }
+
+    #[test]
+    fn who_was_drained_is_known_to_each_leader_until_a_spread_or_undrain() {
+        for word in ["SM SPREAD", "SM UNDRAIN 1"] {
+            let [_, backend] = backends();
+            told(&backend, &mut backend.control(), ["SM DRAIN 1"])[0]
+                .clone()
+                .unwrap();
+            assert_eq!(backend.plain().intents, [Intent::Drained(1)]);
+            let mut next = backend.control();
+            next.go_on_with_intents().unwrap();
+            assert_eq!(next.kept_empty, [1].into());
+            assert_eq!(backend.plain().doing.get(&1), Some(&Doing::Drained));
+            told(&backend, &mut next, [word])[0].clone().unwrap();
+            assert!(next.kept_empty.is_empty() && backend.plain().intents.is_empty());
+            assert_eq!(backend.plain().doing.get(&1), None);
+        }
+    }
+
+    #[test]
+    fn a_server_without_shards_that_is_drained_is_kept_empty() {
+        let [memory, backend] = backends();
+        told(&backend, &mut backend.control(), ["SM DRAIN 2"])[0]
+            .clone()
+            .unwrap();
+        assert_eq!(backend.plain().intents, [Intent::Drained(2)]);
+        // In memory nobody moves shards unless somebody asks for that.
+        told(&memory, &mut memory.control(), ["SM DRAIN 2"])[0]
+            .clone()
+            .unwrap();
+        assert_eq!(memory.plain().intents, []);
+    }
+
+    #[test]
+    fn a_spread_does_not_undrain_a_server_whose_drain_goes_on() {
+        let [_, backend] = backends();
+        let mut control = backend.control();
+        for answer in told(&backend, &mut control, ["SM DRAIN 1", "SM SPREAD"]) {
+            answer.unwrap();
+        }
+        assert_eq!(control.kept_empty, [1].into());
+        let drain = asked(&mut control, "SM DRAIN 2");
+        let refused = asked(&mut control, "SM UNDRAIN 2").try_recv().unwrap();
+        assert_eq!(refused, Err(Refusal::under_way()));
+        let refused = asked(&mut control, "SM UNDRAIN 3").try_recv().unwrap();
+        assert_eq!(refused, Err(Refusal::unknown_server()));
+        told(&backend, &mut control, []);
+        drain.try_recv().unwrap().unwrap();
     }
 
     #[test]

@@ -20,6 +20,8 @@ pub enum Doing {
     Ended,
     /// The server's shards come home.
     Returning(Share),
+    /// Nothing: it was drained, and gets no shard unless somebody asks for that.
+    Drained,
 }
 
 /// So many shards of all that must move.
@@ -49,6 +51,7 @@ impl fmt::Display for Doing {
             Doing::Stopping => f.write_str("stopping"),
             Doing::Ended => f.write_str("waiting for its process to be ended and begun again"),
             Doing::Returning(share) => write!(f, "returning {share}"),
+            Doing::Drained => f.write_str("drained"),
         }
     }
 }

@@ -200,7 +200,7 @@ impl SmWord {
 
 /// All words.
 #[rustfmt::skip]
-const WORDS: [SmWord; 37] = [
+const WORDS: [SmWord; 38] = [
     SmWord::new("SHARDS", "the stand of each shard, below the columns' names; other is its next or previous owner",
         Does::Bare(|it| Ok(ControlAnswer::Lines(it.host.shard_lines()).into()))).of_all(),
     SmWord::new("SERVERS", "the state of each server, below the columns' names: the shards that it owns, admissions, \
@@ -232,8 +232,9 @@ const WORDS: [SmWord; 37] = [
     SmWord::new("MIGRATE k b", "moves shard k to server b by a whole migration, under load", Does::Pair(migrate)),
     SmWord::new("DRAIN a", "migrates all shards of server a, as the library plans; drains go one by one",
         Does::Number(|_, server| Ok(TaskWork::Drain(Drain::new(server, false)).into()))),
-    SmWord::new("SPREAD", "migrates shards from servers that have many to those that have few",
-        Does::Bare(|_| Ok(TaskWork::Spread(Spread::default()).into()))),
+    SmWord::new("UNDRAIN a", "where data outlives the process: server a, which was drained, gets shards by itself again; \
+        SPREAD does that for all servers", Does::Number(undrain)).only(There::Stores),
+    SmWord::new("SPREAD", "migrates shards from servers that have many to those that have few", Does::Bare(spread)),
     SmWord::new("PLAN a", "where DRAIN a would move shards; nothing is moved", Does::Number(plan_of)),
     SmWord::new("PLAN", "where PLACE would put vacant shards; nothing is moved", Does::Bare(|it| plan(it, 0))),
     SmWord::new("PLACE", "gives each vacant shard an owner, as planned by the library",
@@ -353,6 +354,23 @@ fn resize(control: &mut Controller, servers: u16) -> Begins {
 fn migrate(control: &mut Controller, shard: u16, server: u16) -> Begins {
     control.forget_homes_of([shard].into_iter())?;
     Ok(TaskWork::Migration(Migration::new(shard, server)).into())
+}
+
+fn spread(control: &mut Controller) -> Begins {
+    control.undrain_all()?;
+    Ok(TaskWork::Spread(Spread::default()).into())
+}
+
+/// Makes the server get shards by itself again. A drain of it must have ended.
+fn undrain(control: &mut Controller, server: u16) -> Begins {
+    if !(1..=control.backend.servers()).contains(&server) {
+        return Err(Refusal::unknown_server());
+    }
+    if control.tasks.iter().any(|it| it.drains() == Some(server)) {
+        return Err(Refusal::under_way());
+    }
+    control.undrain(server)?;
+    Ok(ControlAnswer::Done.into())
 }
 
 fn plan_of(control: &mut Controller, server: u16) -> Begins {

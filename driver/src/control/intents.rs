@@ -15,7 +15,7 @@ impl DurableControl {
     pub fn intents(&mut self) -> Result<Vec<Intent>, Refused> {
         self.catch_up()?;
         let mut intents = Vec::new();
-        for prefix in [keys::DRAINS, keys::HOMES] {
+        for prefix in [keys::DRAINS, keys::DRAINED, keys::HOMES] {
             let reading = self.durable.store().read_all(prefix)?;
             let pairs = reading.pairs.iter();
             intents.extend(pairs.filter_map(|it| Intent::of(&it.key, &it.value)));
