@@ -7,8 +7,8 @@ use crate::settings::line;
 use crate::threads::{block_on, spawn, Threads};
 use crate::{JoinError, Service};
 use durkenzo_control::control::{
-    is_decided, Again, Asked, Campaigner, ControlAnswer, ControlHost, Doing, OtherControls,
-    Refusal, ReplyTo, Words,
+    is_decided, Again, Asked, Balance, Campaigner, ControlAnswer, ControlHost, Doing,
+    OtherControls, Refusal, ReplyTo, Words,
 };
 use durkenzo_driver::{ControlCommand, Durable, Member, ServerState};
 use std::sync::atomic::{AtomicBool, Ordering};
@@ -27,6 +27,7 @@ struct Host {
     threads: Arc<Threads>,
     stopping: Arc<AtomicBool>,
     settings: String,
+    balance: Balance,
 }
 
 /// Begins the control.
@@ -42,6 +43,7 @@ pub(crate) fn begin<S: Service>(
         threads: threads.clone(),
         stopping: fleet.stopping.clone(),
         settings: fleet.settings.clone(),
+        balance: fleet.options.balance,
     });
     let line = line(&fleet.settings).to_owned();
     let campaigner = Campaigner::new(host.clone(), fleet.durable.clone(), host, line, true);
@@ -70,6 +72,10 @@ impl ControlHost for Host {
     fn note_change(&self, _: ControlCommand) {}
 
     fn note_load(&self) {}
+
+    fn balance(&self) -> Balance {
+        self.balance
+    }
 
     fn shard_line(&self, shard: u16) -> Option<String> {
         let record = self.durable.standing(shard)?.record()?;

@@ -127,6 +127,7 @@ pub use async_router::AsyncRouter;
 pub use call_error::CallError;
 pub use changes::{Changes, Piece};
 pub use durkenzo::Mode;
+pub use durkenzo_control::control::Balance;
 pub use durkenzo_store::KeyPrefix;
 pub use enter::{Destination, Enter, Refused};
 pub use fleet::Fleet;

@@ -3,6 +3,7 @@ use crate::settings::Settings;
 use crate::{JoinError, Safety, SafetyOptions, Sharding};
 use clap::{Args, Parser};
 use durkenzo::LayoutFault;
+use durkenzo_control::control::Balance;
 use durkenzo_control::links::Secret;
 use durkenzo_store::{Access, Etcd, KeyPrefix, PrefixedStore, Store};
 use std::net::{SocketAddr, TcpListener};
@@ -179,6 +180,15 @@ pub struct Options {
         value_parser = clap::value_parser!(u16).range(1..=64)
     )]
     pub moves: u16,
+
+    /// How fast the process that leads moves shards by itself, so that servers have as much to do as others
+    #[arg(
+        long,
+        env = "DURKENZO_BALANCE",
+        value_name = "off|slow|fast",
+        default_value_t = Balance::Slow
+    )]
+    pub balance: Balance,
 
     /// Most connections of clients that are served at once; as many connections of others are served besides
     #[arg(

@@ -26,6 +26,8 @@ pub struct Cluster {
     pub progress: Progress,
     /// How often each kind of change to a shard was made.
     pub changes_made: ChangesMade,
+    /// How many shards this process began to move to even out servers.
+    pub balance_moves: AtomicU64,
     /// The addresses from which wrong passwords came lately.
     pub guesses: Guesses,
     /// The positions of SCAN's cursors.
@@ -61,6 +63,7 @@ impl Cluster {
             presence: Presence::new(Membership::of(&configuration)),
             progress: Progress::default(),
             changes_made: ChangesMade::default(),
+            balance_moves: AtomicU64::new(0),
             guesses: Guesses::default(),
             cursors,
             storage,

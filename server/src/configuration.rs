@@ -7,6 +7,7 @@ use crate::options::Options;
 use crate::run::BoxError;
 use crate::safety::Safety;
 use crate::settings::{self, even_bounds, Settings, MAX_CEILING};
+use durkenzo_control::control::Balance;
 use durkenzo_driver::{split_settings, Reads, ShardOptions};
 use std::fs;
 use std::path::{Path, PathBuf};
@@ -50,6 +51,8 @@ pub struct Configuration {
     pub log_batches: u64,
     /// How reads are answered, if servers have leases.
     pub reads: Reads,
+    /// How fast the process that leads evens out servers, if there are several processes.
+    pub balance: Balance,
     /// The folder of dumps.
     pub folder: PathBuf,
     /// Who may connect, and what they may do.
@@ -77,6 +80,7 @@ impl Configuration {
             grace: Duration::from_secs(2),
             log_batches: ShardOptions::default().most_batches,
             reads: Reads::Exact,
+            balance: Balance::default(),
             folder: PathBuf::from(USUAL_FOLDER),
             safety: Safety::default(),
             settings: None,
@@ -110,6 +114,7 @@ impl Configuration {
             grace: Duration::from_millis(options.grace),
             log_batches: options.log_batches,
             reads: options.join.reads.into(),
+            balance: options.join.balance,
             folder: options.folder.clone(),
             safety: Safety::of(&options.safety)?,
             settings: settings.map(|it| it.line().into()),

@@ -6,6 +6,7 @@ use crate::stats::{Stats, OF_THREADS};
 use crate::works::Peers;
 use durkenzo_driver::Durable;
 use durkenzo_store::StoreCounts;
+use std::sync::atomic::Ordering;
 use std::time::Instant;
 
 /// A number that a process reports: its name, and its source.
@@ -157,7 +158,7 @@ pub(crate) fn is_leased(peers: &Peers) -> bool {
 }
 
 /// The numbers that a process has once.
-static OF_PROCESSES: [Metric; 26] = [
+static OF_PROCESSES: [Metric; 27] = [
     Metric::gauge(
         "uptime_seconds",
         "Seconds since the start",
@@ -290,6 +291,12 @@ static OF_PROCESSES: [Metric; 26] = [
         KEPT,
         Info::Own(Section::Cluster),
         Source::Peers(|it| it.member().processes_kept()),
+    ),
+    Metric::counter(
+        "balance_moves",
+        "Shards that this process, while it led, began to move to even out servers",
+        Info::Own(Section::Cluster),
+        Source::Process(|it| it.balance_moves.load(Ordering::Relaxed)),
     ),
     Metric::counter(
         "works_sent",

@@ -1,5 +1,5 @@
 use super::progress::Doing;
-use super::ReplyTo;
+use super::{Balance, ReplyTo};
 use durkenzo_driver::{ControlCommand, ServerState};
 use std::time::Duration;
 
@@ -22,6 +22,14 @@ pub trait ControlHost: Send + Sync {
 
     /// Notes that the content and the stands of shards were replaced by those of a file.
     fn note_load(&self);
+
+    /// Returns how fast the leader evens out by itself how much servers have to do.
+    fn balance(&self) -> Balance {
+        Balance::Off
+    }
+
+    /// Notes that the leader moves a shard to even out servers.
+    fn note_balanced(&self) {}
 
     /// Returns a line about the shard, if there is such a shard.
     fn shard_line(&self, shard: u16) -> Option<String>;

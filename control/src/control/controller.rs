@@ -269,6 +269,11 @@ impl Controller {
         peers.is_none_or(|it| it.member().members().contains_key(&server))
     }
 
+    /// Returns whether the server gets no shard unless somebody asks for that, because it is or was drained.
+    pub(super) fn is_kept_empty(&self, server: u16) -> bool {
+        self.drained.contains(&server) || self.kept_empty.contains(&server)
+    }
+
     /// Returns the mode of the control, on which the available words depend.
     pub(super) fn mode(&self) -> ControlMode {
         ControlMode {

@@ -1,5 +1,6 @@
 //! The work of the leader among several processes, beside answering. It is the failure detector: a server whose key has
 //! gone with its lease has failed, and its shards go to others.
+use super::balancer::Balancer;
 use super::compactor::Compactor;
 use super::controller::{Controller, TURN};
 use super::held_command::{HeldCommand, Waiting};
@@ -23,6 +24,7 @@ pub const FIRST_WAIT: Duration = Duration::from_secs(10);
 pub(super) struct Leader {
     control: Controller,
     watch: LeaderWatch,
+    balancer: Balancer,
     compactor: Compactor,
     peers: Arc<dyn OtherControls>,
 }
@@ -40,6 +42,7 @@ impl Leader {
         control.peers = Some(peers.clone());
         Leader {
             watch: LeaderWatch::new(assigns, is_back, control.now()),
+            balancer: Balancer::new(control.host.balance(), control.now()),
             compactor: Compactor::new(store, control.now()),
             control,
             peers,
@@ -64,6 +67,9 @@ impl Leader {
         control.take_waiting(waiting, self.watch.has_begun);
         control.run_tasks();
         self.watch.go_on(control);
+        if self.watch.has_assigned() {
+            self.balancer.go_on(control);
+        }
         if control.is_lost || self.watch.is_led_elsewhere(&*self.peers) {
             control.leave();
             return false;
@@ -122,6 +128,11 @@ impl LeaderWatch {
             is_known: false,
             is_back,
         }
+    }
+
+    /// Returns whether it has looked at all work that was under way, and shards have their first owners.
+    fn has_assigned(&self) -> bool {
+        self.has_begun && self.assigns.is_none()
     }
 
     /// Returns whether another process leads, or this one's lease has ended.

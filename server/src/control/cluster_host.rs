@@ -2,9 +2,10 @@ use super::routes::{compact, routes};
 use crate::cluster::Cluster;
 use crate::observer::Observer;
 use durkenzo::PassFault;
-use durkenzo_control::control::{ControlHost, Doing, ReplyTo};
+use durkenzo_control::control::{Balance, ControlHost, Doing, ReplyTo};
 use durkenzo_driver::{ControlCommand, ServerState};
 use std::fmt;
+use std::sync::atomic::Ordering;
 use std::sync::{Arc, Mutex, MutexGuard, PoisonError};
 use std::time::Duration;
 
@@ -59,6 +60,14 @@ impl ControlHost for ClusterHost {
 
     fn note_load(&self) {
         self.observer().renew();
+    }
+
+    fn balance(&self) -> Balance {
+        self.cluster.configuration.balance
+    }
+
+    fn note_balanced(&self) {
+        self.cluster.balance_moves.fetch_add(1, Ordering::Relaxed);
     }
 
     fn shard_line(&self, shard: u16) -> Option<String> {

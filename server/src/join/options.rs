@@ -1,6 +1,7 @@
 //! The options for a cluster of several processes.
 use crate::run::BoxError;
 use clap::{Args, ValueEnum};
+use durkenzo_control::control::Balance;
 use durkenzo_driver::{Addresses, Reads};
 use durkenzo_store::{Access, KeyPrefix};
 use std::fs;
@@ -79,6 +80,16 @@ pub struct JoinOptions {
         help_heading = CLUSTER
     )]
     pub reads: ReadsOption,
+
+    /// How fast the process that leads moves shards by itself, so that servers have as much to do as others
+    #[arg(
+        long,
+        value_name = "off|slow|fast",
+        default_value_t = Balance::Slow,
+        requires = "etcd",
+        help_heading = CLUSTER
+    )]
+    pub balance: Balance,
 
     /// The user's name, if etcd asks for one [default: none]
     #[arg(long, value_name = "NAME", requires_all = ["etcd", "etcd_password_file"], help_heading = CLUSTER)]
