@@ -333,14 +333,14 @@ impl Controller {
     }
 
     /// Takes the command, if there is one, and does the work that is due.
-    pub(super) fn turn(&mut self, asked: Option<Asked>) {
+    pub fn turn(&mut self, asked: Option<Asked>) {
         asked.into_iter().for_each(|it| self.take(it));
         self.run_tasks();
     }
 
     /// Returns how long it is until the next turn, if nobody asks sooner. Returns nothing if there is nothing to do
     /// until then.
-    pub(super) fn wait(&self) -> Option<Duration> {
+    pub fn wait(&self) -> Option<Duration> {
         let is_idle = self.tasks.is_empty() && self.paused.is_empty();
         (!is_idle).then(|| self.wait_for_tasks().unwrap_or(TICK))
     }

@@ -120,8 +120,33 @@ impl Durable {
         clock: Clock,
     ) -> Result<(Durable, Chores), OpenFault> {
         let own = (own.member.process(), Some(own));
-        let on_change = Box::new(|| {});
-        let by = (clock, on_change as Box<_>);
+        Durable::with_chores(store, shards, shard_options, own, clock)
+    }
+
+    /// Opens the shards of a process as [`Durable::open`] does, with all their servers, but starts no thread. Everything
+    /// else is as with [`Durable::open_without_threads`].
+    ///
+    /// # Errors
+    ///
+    /// If the store can't be read or written.
+    pub fn open_all_without_threads(
+        store: Arc<dyn Store>,
+        shards: u16,
+        shard_options: ShardOptions,
+        clock: Clock,
+    ) -> Result<(Durable, Chores), OpenFault> {
+        let process = process::begin(&*store)?;
+        Durable::with_chores(store, shards, shard_options, (process, None), clock)
+    }
+
+    fn with_chores(
+        store: Arc<dyn Store>,
+        shards: u16,
+        shard_options: ShardOptions,
+        own: (u64, Option<Own>),
+        clock: Clock,
+    ) -> Result<(Durable, Chores), OpenFault> {
+        let by = (clock, Box::new(|| {}) as Box<_>);
         let served = (store, Arc::new(Texts) as Arc<_>);
         let (durable, handed) = Durable::idle(served, shards, shard_options, own, by)?;
         let chores = Chores::new(durable.inner.clone(), handed);

@@ -107,6 +107,19 @@ impl Store for Embedded {
             .send(Job::Make(transaction, Completion::new(done)));
     }
 
+    /// A store without a thread does it here.
+    #[cfg(feature = "simulated")]
+    fn make(&self, transaction: Transaction) -> Result<Outcome, WriteError> {
+        let (tell, told) = mpsc::channel();
+        let done = move |outcome| {
+            // The caller waits until it is told.
+            let _ = tell.send(outcome);
+        };
+        self.submit(transaction, Box::new(done));
+        self.step();
+        told.recv().unwrap_or(Err(WriteError::Stopped))
+    }
+
     fn read(&self, keys: &[&[u8]]) -> Result<Reading, ReadError> {
         let keys = keys.iter().map(|it| it.to_vec()).collect();
         self.ask(|tell| Job::Read(keys, tell))
