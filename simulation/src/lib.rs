@@ -14,6 +14,7 @@
 //! break the law.
 #![deny(unsafe_code)]
 
+mod alone;
 mod beginning;
 pub mod bug;
 pub mod chance;

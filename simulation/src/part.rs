@@ -14,20 +14,23 @@ pub enum Part {
     Folder,
     /// Processes and clients of a server, over the same store as `Processes`. The clients speak RESP.
     Server,
+    /// A server of one process, in memory or in a folder, and clients that speak RESP.
+    Alone,
 }
 
 impl Part {
     /// All parts, in their order.
-    pub const ALL: [Part; 5] = [
+    pub const ALL: [Part; 6] = [
         Part::Processes,
         Part::EtcdClient,
         Part::Fleet,
         Part::Folder,
         Part::Server,
+        Part::Alone,
     ];
 
     /// The parts that each seed runs if none is named. A fleet isn't among them, because its schedules take eight times
-    /// as long. A folder and a server aren't among them either.
+    /// as long. A folder and servers aren't among them either.
     pub const USUAL: [Part; 2] = [Part::Processes, Part::EtcdClient];
 
     fn name(self) -> &'static str {
@@ -37,6 +40,7 @@ impl Part {
             Part::Fleet => "fleet",
             Part::Folder => "folder",
             Part::Server => "server",
+            Part::Alone => "alone",
         }
     }
 }

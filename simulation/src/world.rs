@@ -7,6 +7,7 @@ mod rest;
 mod servers;
 mod shape;
 
+use crate::alone::run_alone_by;
 use crate::beginning::Beginning;
 use crate::bug::Bug;
 use crate::chance::Chance;
@@ -114,6 +115,7 @@ pub fn run_by(plan: &Plan) -> Ran {
         Part::Processes | Part::Fleet | Part::Server => run_processes_by(plan),
         Part::EtcdClient => run_clients_by(plan),
         Part::Folder => run_folder_by(plan),
+        Part::Alone => run_alone_by(plan),
     }
 }
 

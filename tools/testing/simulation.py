@@ -21,6 +21,8 @@ FLEETS = ("--part", "fleet", "--seed", "1", "--schedules", "2000", "--seconds", 
 FOLDERS = ("--part", "folder", "--seed", "1", "--schedules", "1000000", "--processor-seconds", "30", "--seconds", "300")
 # Those of a server take 7 ms each.
 SERVERS = ("--part", "server", "--seed", "1", "--schedules", "5000", "--seconds", "900")
+# Those of a server of one process take 11 ms each.
+ALONE = ("--part", "alone", "--seed", "1", "--schedules", "3000", "--seconds", "900")
 # For how many seconds of a processor further ones are tried, and for how many of time at most.
 NEW_SECONDS, NEW_TIME = "180", "900"
 # More schedules than are tried in that time, so that no seed comes twice.
@@ -61,6 +63,7 @@ def passed(_room):
     yield workspace.ran("those of a fleet do", "run", "--quiet", *SIMULATION, "--", *FLEETS)
     yield workspace.ran("those of a store in a folder do", "run", "--quiet", *SIMULATION, "--", *FOLDERS)
     yield workspace.ran("those of a server do", "run", "--quiet", *SIMULATION, "--", *SERVERS)
+    yield workspace.ran("those of a server of one process do", "run", "--quiet", *SIMULATION, "--", *ALONE)
     seed = str(new_seed())
     limits = ("--seed", seed, "--schedules", str(APART), "--processor-seconds", NEW_SECONDS, "--seconds", NEW_TIME)
     yield workspace.ran(f"new ones from seed {seed} on do", "run", "--quiet", *SIMULATION, "--", *limits)

@@ -12,4 +12,7 @@ mod open_file;
 mod simulated_disk;
 mod sqlite_files;
 
+pub use disk_rates::DiskRates;
 pub use folder_world::run_folder_by;
+pub use mounted_disk::MountedDisk;
+pub use simulated_disk::{locked, SimulatedDisk};

@@ -84,6 +84,20 @@ impl RespClient {
         }
     }
 
+    /// Sends this command with these words at this step. Returns whether it could.
+    pub fn send(&mut self, sent: Sent, words: &[String], step: u64) -> bool {
+        let Some((_, line)) = self.line.clone() else {
+            return false;
+        };
+        if self.expected.len() >= MOST_OPEN || line.line().has_client_ended() {
+            return false;
+        }
+        line.line().send(&spelled(words));
+        let since = step;
+        self.expected.push_back(Expected { sent, since });
+        true
+    }
+
     /// Sends no more. The answers are still read.
     pub fn end(&mut self) {
         if let Some((_, line)) = &self.line {

@@ -141,7 +141,7 @@ impl Shape {
         let always: &[_] = match plan.part {
             Part::Fleet => &FLEET,
             Part::Server => &SERVER,
-            Part::Processes | Part::EtcdClient | Part::Folder => &ALWAYS,
+            Part::Processes | Part::EtcdClient | Part::Folder | Part::Alone => &ALWAYS,
         };
         let linked: &[_] = if is_linked { &LINKED } else { &[] };
         let happenings = weighed(chance, &[always, more, linked].concat());
