@@ -57,7 +57,7 @@ impl ShardWorker for BoardWorker {
                     self.owners[asked.shard] = server;
                 }
                 // Waits as `Pass::with` does.
-                Err(fault) if fault.is_passing() => thread::yield_now(),
+                Err(fault) if fault.is_transient() => thread::yield_now(),
                 Err(fault) => panic!("{fault}"),
             }
         }

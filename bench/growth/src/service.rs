@@ -101,5 +101,5 @@ impl ShardWorker for Asker<'_> {
 
 /// Returns whether the request was refused because another thread had the shard or was first.
 fn is_passing(refused: &ServeRefused) -> bool {
-    matches!(refused.fault, ServeFault::Admit(fault) if fault.is_passing())
+    matches!(refused.fault, ServeFault::Admit(fault) if fault.is_transient())
 }

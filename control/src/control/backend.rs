@@ -165,7 +165,7 @@ impl BackendFault {
     /// Returns whether the same command may succeed at once when it is tried again, because another thread has the
     /// shard.
     pub fn is_passing(&self) -> bool {
-        matches!(self, BackendFault::Change(fault) if fault.is_passing())
+        matches!(self, BackendFault::Change(fault) if fault.is_transient())
     }
 
     /// Returns whether the outcome isn't known: the command may have been done.

@@ -7,7 +7,7 @@ use crate::observer::Observer;
 use crate::stats::Stats;
 use crate::storage::InMemory;
 use crate::wait::{NotAdmitted, Wait};
-use durkenzo::{Record, Stand};
+use durkenzo::{Permit, Record, Stand};
 use durkenzo_control::control::{Advance, ControlAnswer, FileWork};
 use std::sync::Arc;
 use std::time::{Duration, Instant};
@@ -58,7 +58,7 @@ impl DumpTask {
         };
         admission.admit_permit(self.shard, |permit| {
             // The permit's end is a step of the history, too.
-            let generation = self.memory.base(self.shard) + permit.generation() + 1;
+            let generation = self.memory.base(self.shard) + Permit::generation(permit) + 1;
             let (text, pairs) = shard_text(permit.as_mut()).map_err(|refusal| match refusal {
                 BodyRefusal::NoMemory => DumpFault::NoMemory.into(),
                 other => Refusal::new("BadShard", format!("{other:?}"), "look at the log"),

@@ -23,7 +23,7 @@ fn serve(
             }
             // Another server executes this shard, or has yet to hand it over.
             Err(AdmitFault::NotExecutor(_) | AdmitFault::NotYet(_)) => {}
-            Err(fault) if fault.is_passing() => {}
+            Err(fault) if fault.is_transient() => {}
             Err(fault) => return Err(fault.into()),
         }
         if stop.load(Ordering::Relaxed) {

@@ -4,7 +4,7 @@
 //! Prints the totals of all accounts at the end. AFTER shows what happens if tokens begin too low: the store refuses
 //! the first write, which is an error. The store here is a file. In a database, `claim` and `add` would be one
 //! transaction each.
-use durkenzo::{Board, Mode, MAX_GENERATION};
+use durkenzo::{Board, Mode, Permit, MAX_GENERATION};
 use std::error::Error;
 use std::fs;
 use std::io::ErrorKind;
@@ -100,7 +100,7 @@ fn main() -> Result<(), BoxError> {
     let mut pass = board.pass(1)?;
     for turn in 0..writes.parse::<u32>()? {
         let mut permit = pass.admit((turn % u32::from(ACCOUNTS)) as u16, Mode::Direct)?;
-        store.add(permit.shard(), permit.token())?;
+        store.add(Permit::shard(&permit), Permit::token(&mut permit))?;
     }
     let sum: u64 = store.accounts.iter().map(|it| it.balance).sum();
     println!("the accounts have {sum}");

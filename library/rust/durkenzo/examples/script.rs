@@ -7,8 +7,8 @@
 //! It skips the settings line: the board has servers 1 to SERVERS. Each server has a domain of its own and room for all
 //! shards, and all servers may be down. `load` isn't answered.
 use durkenzo::{
-    Board, Control, Layout, Map, MapFault, Mode, Pass, Plan, Record, Reply, Request, RestartFault,
-    Router, Routes, Stand, Value,
+    Board, Control, Layout, Map, MapFault, Mode, Pass, Permit, Plan, Record, Reply, Request,
+    RestartFault, Router, Routes, Stand, Value,
 };
 use std::collections::HashMap;
 use std::error::Error;
@@ -159,7 +159,7 @@ impl ScriptSession {
     fn admit(&mut self, shard: u16, server: u16) -> ScriptAnswer {
         let mut pass = self.pass(shard, server)?;
         let permit = pass.admit(shard, Mode::Direct).map_err(|it| named(&it))?;
-        permit.finish();
+        Permit::finish(permit);
         Ok(b"ok".to_vec())
     }
 
@@ -290,7 +290,7 @@ impl ScriptSession {
         let reply = body.reply(word, key, rest);
         let place = body.requests;
         body.requests += 1;
-        body.finish();
+        Permit::finish(body);
         Ok([reply, format!(" @{server}#{place}").into_bytes()].concat())
     }
 }

@@ -5,13 +5,20 @@ use crate::limits::MAX_GENERATION;
 use crate::pass::Pass;
 use crate::raw::{self, Handle};
 use crate::settings_fault::SettingsFault;
+use crate::waiters::Waiters;
 use std::cell::UnsafeCell;
 use std::fmt;
+use std::panic::{RefUnwindSafe, UnwindSafe};
+use std::sync::atomic::{AtomicBool, Ordering};
 use std::sync::{Arc, Mutex, MutexGuard, PoisonError};
 
 /// The state that all handles of a board share.
 pub(crate) struct Shared<T> {
     chief: Mutex<Handle>,
+    /// The callers that wait for shards.
+    pub(crate) waiters: Waiters,
+    /// Whether a thread panicked during an admission to each shard.
+    poisoned: Box<[AtomicBool]>,
     /// Reached only through a permit, until the last owner takes the bodies out.
     bodies: Box<[UnsafeCell<T>]>,
 }
@@ -20,11 +27,17 @@ pub(crate) struct Shared<T> {
 // bodies between threads, and never shares one.
 unsafe impl<T: Send> Sync for Shared<T> {}
 
+// A panic poisons the shard, and each later permit tells so. `std::sync::Mutex` is safe for the same reason.
+impl<T> UnwindSafe for Shared<T> {}
+impl<T> RefUnwindSafe for Shared<T> {}
+
 impl<T> Shared<T> {
     /// Returns the shared state of a board whose bodies the library keeps itself.
-    pub(crate) fn without_bodies(chief: Handle) -> Shared<T> {
+    pub(crate) fn without_bodies(chief: Handle, shards: usize) -> Shared<T> {
         Shared {
             chief: Mutex::new(chief),
+            waiters: Waiters::new(shards),
+            poisoned: Box::default(),
             bodies: Box::default(),
         }
     }
@@ -37,6 +50,15 @@ impl<T> Shared<T> {
     /// Returns the place of the body with this number.
     pub(crate) fn body(&self, number: u64) -> *mut T {
         self.bodies[number as usize].get()
+    }
+
+    // Only whoever is admitted to the shard reads and writes this, and admissions are ordered.
+    pub(crate) fn is_poisoned(&self, shard: u16) -> bool {
+        self.poisoned[usize::from(shard)].load(Ordering::Relaxed)
+    }
+
+    pub(crate) fn set_poisoned(&self, shard: u16, is_poisoned: bool) {
+        self.poisoned[usize::from(shard)].store(is_poisoned, Ordering::Relaxed);
     }
 }
 
@@ -138,6 +160,8 @@ impl<T> Board<T> {
         Board {
             shared: Arc::new(Shared {
                 chief: Mutex::new(chief),
+                waiters: Waiters::new(bodies.len()),
+                poisoned: bodies.iter().map(|_| AtomicBool::default()).collect(),
                 bodies,
             }),
         }

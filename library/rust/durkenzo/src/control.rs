@@ -2,13 +2,17 @@ use crate::board::Shared;
 use crate::change::Change;
 use crate::fault::{ChangeFault, PlanFault, RestartFault};
 use crate::limits::MAX_SERVER;
+use crate::parked;
 use crate::plan::Plan;
 use crate::raw::{self, Handle, RecordParts};
 use crate::record::{Record, Stand};
 use crate::restart_step::RestartStep;
 use crate::restore_fault::RestoreFault;
+use crate::waiters::{Attempt, Wait};
 use std::fmt;
+use std::future::{self, Future};
 use std::sync::Arc;
+use std::time::{Duration, Instant};
 
 /// The control of a board, which alone can change who owns a shard. Each call holds the control's lock while it runs.
 ///
@@ -116,10 +120,12 @@ impl<T> Control<T> {
         self.change(shard, Change::Reassign(server))
     }
 
-    /// Moves the shard to this server by a whole migration. While the shard is admitted, each step is tried again. If
-    /// that admission never ends, `migrate` never returns: for example, because the calling thread holds the permit, or
-    /// has forgotten it while its pass lives. `migrate` publishes no route. If you keep [`Routes`](crate::Routes), take
-    /// the steps one by one, and publish before `drop_shard`.
+    /// Moves the shard to this server by a whole migration. While the shard is admitted, this thread is parked before
+    /// the next step. If that admission never ends, `migrate` never returns: for example, because the calling thread
+    /// holds the permit, or has forgotten it while its pass lives. [`Control::migrate_for`] waits for a limited time.
+    ///
+    /// `migrate` publishes no route. If you keep [`Routes`](crate::Routes), take the steps one by one, and publish
+    /// before `drop_shard`.
     ///
     /// # Errors
     ///
@@ -127,10 +133,45 @@ impl<T> Control<T> {
     /// stay made, and the shard is left in the middle of its migration. Before `add_shard`, [`Control::cancel`] goes
     /// back; after it, [`Control::drop_shard`] ends the migration.
     pub fn migrate(&self, shard: u16, server: u16) -> Result<(), ChangeFault> {
-        again(|| self.prepare_add_shard(shard, server))?;
-        again(|| self.prepare_drop_shard(shard))?;
-        again(|| self.add_shard(shard))?;
-        again(|| self.drop_shard(shard))
+        let mut steps = migration(server).into_iter();
+        steps.try_for_each(|step| self.change_until(shard, step, None))
+    }
+
+    /// Moves the shard as [`Control::migrate`] does, without waiting.
+    ///
+    /// # Errors
+    ///
+    /// [Those of a change](Control#errors). `Busy` or `Raced` comes if a step would have to wait. The steps before it
+    /// stay made, as with `migrate`.
+    pub fn try_migrate(&self, shard: u16, server: u16) -> Result<(), ChangeFault> {
+        let mut steps = migration(server).into_iter();
+        steps.try_for_each(|step| self.change(shard, step))
+    }
+
+    /// Moves the shard as [`Control::migrate`] does, and waits at most for this time in all.
+    ///
+    /// # Errors
+    ///
+    /// [Those of a change](Control#errors). `Busy` or `Raced` comes after the time. The steps before it stay made, as
+    /// with `migrate`. [`Control::change_for`] takes one of the other steps.
+    pub fn migrate_for(&self, shard: u16, server: u16, time: Duration) -> Result<(), ChangeFault> {
+        let until = parked::end_of(time);
+        let mut steps = migration(server).into_iter();
+        steps.try_for_each(|step| self.change_until(shard, step, until))
+    }
+
+    /// Moves the shard as [`Control::migrate`] does, for a task of any async runtime.
+    ///
+    /// If the future is dropped, the steps that it has made stay made, as with `migrate`.
+    ///
+    /// # Errors
+    ///
+    /// Those of [`Control::migrate`].
+    pub async fn migrate_async(&self, shard: u16, server: u16) -> Result<(), ChangeFault> {
+        for step in migration(server) {
+            self.change_async(shard, step).await?;
+        }
+        Ok(())
     }
 
     /// Makes the changes that lead a vacant shard, or a shard on its way, to this stand. Use it to restore an older
@@ -271,6 +312,60 @@ impl<T> Control<T> {
         }
     }
 
+    /// Makes this change of the shard. While the shard is admitted, the thread is parked, at most for this time.
+    ///
+    /// # Errors
+    ///
+    /// [Those of a change](Control#errors). `Busy` or `Raced` comes after the time.
+    pub fn change_for(
+        &self,
+        shard: u16,
+        change: Change,
+        time: Duration,
+    ) -> Result<(), ChangeFault> {
+        self.change_until(shard, change, parked::end_of(time))
+    }
+
+    /// Makes this change of the shard as soon as the shard isn't admitted, for a task of any async runtime. The future
+    /// gives up if it is dropped.
+    ///
+    /// # Errors
+    ///
+    /// [Those of a change](Control#errors), except for `Busy` and `Raced`.
+    pub fn change_async(
+        &self,
+        shard: u16,
+        change: Change,
+    ) -> impl Future<Output = Result<(), ChangeFault>> + '_ {
+        let mut wait = Wait::default();
+        future::poll_fn(move |context| {
+            let attempt = || match self.change(shard, change) {
+                Err(ChangeFault::Raced(_)) => Attempt::Raced,
+                Err(ChangeFault::Busy(_)) => Attempt::Held,
+                made => Attempt::Ended(made),
+            };
+            wait.poll(context, (&self.shared.waiters, shard), attempt, |_| false)
+        })
+    }
+
+    /// Makes the change, and waits at most until then, or for as long as it takes if no time is given.
+    fn change_until(
+        &self,
+        shard: u16,
+        change: Change,
+        until: Option<Instant>,
+    ) -> Result<(), ChangeFault> {
+        let attempt = || match self.change(shard, change) {
+            Err(fault) if fault.is_transient() => None,
+            made => Some(made),
+        };
+        if let Some(made) = attempt().or_else(|| parked::spin(attempt)) {
+            return made;
+        }
+        let waited = parked::wait_for(self.change_async(shard, change), until);
+        waited.unwrap_or_else(|| self.change(shard, change))
+    }
+
     /// Makes this step of the server's restart.
     ///
     /// # Errors
@@ -300,12 +395,12 @@ impl<T> fmt::Debug for Control<T> {
     }
 }
 
-/// Makes the change, and tries again while another thread has the shard or was first.
-fn again(change: impl Fn() -> Result<(), ChangeFault>) -> Result<(), ChangeFault> {
-    loop {
-        match change() {
-            Err(fault) if fault.is_passing() => std::thread::yield_now(),
-            answer => return answer,
-        }
-    }
+/// Returns the steps of a migration to this server, in order.
+fn migration(server: u16) -> [Change; 4] {
+    [
+        Change::PrepareAddShard(server),
+        Change::PrepareDropShard,
+        Change::AddShard,
+        Change::DropShard,
+    ]
 }

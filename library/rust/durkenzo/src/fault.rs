@@ -28,7 +28,7 @@ impl AdmitFault {
 
     /// Returns whether the same call may succeed if you make it again at once, because another thread had the shard or
     /// was first.
-    pub fn is_passing(&self) -> bool {
+    pub fn is_transient(&self) -> bool {
         matches!(self, AdmitFault::Admitted(_) | AdmitFault::Raced(_))
     }
 }
@@ -43,7 +43,7 @@ impl ChangeFault {
     }
 
     /// Returns whether the same change may succeed if you ask for it again at once.
-    pub fn is_passing(&self) -> bool {
+    pub fn is_transient(&self) -> bool {
         matches!(self, ChangeFault::Busy(_) | ChangeFault::Raced(_))
     }
 }
@@ -742,7 +742,7 @@ mod tests {
         let read = Record::of_word(0);
         let fault = AdmitFault::of(9_999, read);
         assert_eq!(fault, AdmitFault::Other(9_999));
-        assert_eq!((fault.record(), fault.is_passing()), (None, false));
+        assert_eq!((fault.record(), fault.is_transient()), (None, false));
         assert_eq!(ServeFault::of(9_999, read), ServeFault::Admit(fault));
         let unmade = CheckpointFault::of(9_999, read);
         assert_eq!(unmade.to_string(), "the library answered code 9999");

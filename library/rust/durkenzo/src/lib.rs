@@ -6,7 +6,7 @@
 //! servers.
 //!
 //! ```
-//! use durkenzo::{Board, Mode};
+//! use durkenzo::{Board, Mode, Permit};
 //!
 //! let board = Board::builder().servers(2).build(vec![0u64; 4])?;
 //! let control = board.control();
@@ -14,7 +14,7 @@
 //! let mut pass = board.pass(1)?;
 //! let mut permit = pass.admit(3, Mode::Direct)?;
 //! *permit += 1;
-//! let front = permit.finish();
+//! let front = Permit::finish(permit);
 //! assert_eq!((front.shard, front.generation), (3, 3));
 //! # Ok::<(), Box<dyn std::error::Error>>(())
 //! ```
@@ -37,7 +37,7 @@
 //! # let board = Board::builder().servers(1).build(vec![0u64; 2]).unwrap();
 //! # let mut pass = board.pass(1).unwrap();
 //! let mut permit = pass.admit(0, Mode::Direct).unwrap();
-//! permit.finish();
+//! Permit::finish(permit);
 //! *permit += 1;
 //! ```
 //! ```compile_fail,E0505
@@ -55,7 +55,7 @@
 //! # let mut pass = board.pass(1).unwrap();
 //! let permit = pass.admit(0, Mode::Direct).unwrap();
 //! let body: &String = &permit;
-//! permit.finish();
+//! Permit::finish(permit);
 //! println!("{body}");
 //! ```
 //! ```compile_fail,E0599
@@ -74,16 +74,20 @@
 //! ```
 #![warn(missing_docs)]
 #![warn(clippy::missing_errors_doc)]
+mod admission;
 mod board;
 mod change;
 mod control;
+mod entry;
 mod envelope;
 mod fault;
 mod layout;
 mod limits;
 mod map;
 mod note;
+mod parked;
 mod pass;
+mod permit;
 mod plan;
 mod raw;
 mod record;
@@ -92,12 +96,15 @@ mod request;
 mod restart_step;
 mod restore_fault;
 mod routes;
+mod seat;
 mod sent;
 mod service;
 mod service_pass;
 mod settings_fault;
+mod waiters;
 pub mod word;
 
+pub use admission::Admission;
 pub use board::{Board, Builder};
 pub use change::Change;
 pub use control::Control;
@@ -111,7 +118,8 @@ pub use layout::Layout;
 pub use limits::{MAX_GENERATION, MAX_KEY, MAX_SERVER, MAX_SHARD, MAX_TEXT, MOST_HOPS};
 pub use map::Map;
 pub use note::Note;
-pub use pass::{Front, Mode, Pass, Permit};
+pub use pass::{Mode, Pass};
+pub use permit::{Front, Permit};
 pub use plan::{Move, Plan};
 pub use record::{Record, Stand};
 pub use reply::{Held, LentReply, LentText, Measure, Reply, Value};

@@ -98,7 +98,7 @@ impl ServiceBuilder {
         };
         match code {
             0 => Ok(Service {
-                shared: Arc::new(Shared::without_bodies(chief)),
+                shared: Arc::new(Shared::without_bodies(chief, self.layout.count())),
                 layout: Arc::new(self.layout),
             }),
             code => Err(BuildFault::of(code)),
@@ -139,7 +139,7 @@ impl Service {
         };
         match code {
             0 => Ok(Service {
-                shared: Arc::new(Shared::without_bodies(chief)),
+                shared: Arc::new(Shared::without_bodies(chief, count)),
                 layout: Arc::new(Layout::of(layout, count)),
             }),
             code => Err(SettingsFault::of(code)),

@@ -143,6 +143,7 @@ impl ServicePass {
                 )
             }
         });
+        self.shared.waiters.wake(envelope.shard());
         match code {
             0 => Ok(Served::Answered(answer_of(envelope))),
             60 => Ok(Served::Forward(to, envelope)),
@@ -182,6 +183,7 @@ impl ServicePass {
         let code = unsafe {
             raw::durkenzo_checkpoint(&mut self.handle, shard, &mut generation, &mut read)
         };
+        self.shared.waiters.wake(shard);
         match code {
             0 => Ok(generation),
             code => Err(CheckpointFault::of(code, Record::of(&read))),

@@ -1,8 +1,8 @@
 use durkenzo::word::{Change, WordFault};
 use durkenzo::{
     word, AdmitFault, Board, BuildFault, ChangeFault, Layout, LayoutFault, Mode, Move, NoteFault,
-    PassFault, PlanFault, PublishFault, Record, RestartFault, Route, Router, Routes, RoutesFault,
-    SettingsFault, Stand, MAX_GENERATION, MAX_KEY,
+    Pass, PassFault, Permit, PlanFault, PublishFault, Record, RestartFault, Route, Router, Routes,
+    RoutesFault, SettingsFault, Stand, MAX_GENERATION, MAX_KEY,
 };
 use std::error::Error;
 use std::panic::{catch_unwind, AssertUnwindSafe};
@@ -178,7 +178,7 @@ fn notes_travel_with_messages() {
     let (board, other) = (self::board(1), self::board(1));
     board.control().assign(0, 1).unwrap();
     let mut one = board.pass(1).unwrap();
-    let left = one.admit(0, Mode::Direct).unwrap().finish().generation;
+    let left = Permit::finish(one.admit(0, Mode::Direct).unwrap()).generation;
     let note = one.note().unwrap();
     let mut two = board.pass(2).unwrap();
     let mut stranger = other.pass(1).unwrap();
@@ -318,13 +318,15 @@ fn refusals_say_what_was_read() {
     let permit = first.admit(0, Mode::Direct).unwrap();
     let fault = second.admit(0, Mode::Direct).err().unwrap();
     let read = fault.record().unwrap();
-    assert!(fault.is_passing() && read.admitted && read.owner() == Some(1) && read.generation == 2);
+    assert!(
+        fault.is_transient() && read.admitted && read.owner() == Some(1) && read.generation == 2
+    );
     assert_eq!(fault.to_string(), "the shard is admitted");
     let busy = control.pause(0).unwrap_err();
     assert!(matches!(busy, ChangeFault::Busy(read) if read.generation == 2));
     let error: Box<dyn Error> = busy.into();
     assert_eq!(error.to_string(), "the shard is admitted");
-    permit.finish();
+    Permit::finish(permit);
     control.pause(0).unwrap();
     assert!(matches!(
         second.admit(0, Mode::Direct),
@@ -363,7 +365,7 @@ fn a_server_that_has_failed_is_admitted_until_its_shard_pauses() {
     control.assign(0, 1).unwrap();
     let mut pass = board.pass(1).unwrap();
     control.fail(1).unwrap();
-    pass.admit(0, Mode::Direct).unwrap().finish();
+    Permit::finish(pass.admit(0, Mode::Direct).unwrap());
     control.pause(0).unwrap();
     let refused = pass.admit(0, Mode::Direct).err();
     assert!(
@@ -379,11 +381,12 @@ fn tokens_grow_with_each_admission() {
     board.control().assign(0, 1).unwrap();
     let (mut old, mut new) = (board.pass(1).unwrap(), board.pass(2).unwrap());
     let mut permit = old.admit(0, Mode::Direct).unwrap();
-    let before = permit.token();
-    assert_eq!((permit.token(), permit.generation()), (before, before));
-    assert!(permit.finish().generation > before);
+    let before = Permit::token(&mut permit);
+    assert_eq!(Permit::token(&mut permit), before);
+    assert_eq!(Permit::generation(&mut permit), before);
+    assert!(Permit::finish(permit).generation > before);
     board.control().migrate(0, 2).unwrap();
-    let after = new.with(0, Mode::Direct, |permit| permit.token()).unwrap();
+    let after = Permit::token(&mut new.admit(0, Mode::Direct).unwrap());
     assert!(after > before);
 }
 
@@ -397,8 +400,9 @@ fn tokens_begin_after_those_of_earlier_boards() {
             board.control().assign(0, 1).unwrap();
             let mut pass = board.pass(1).unwrap();
             let mut permit = pass.admit(0, Mode::Direct).unwrap();
-            assert!(permit.token() > after && permit.token() <= after + MAX_GENERATION);
-            assert_eq!(permit.token(), after + permit.generation());
+            let token = Permit::token(&mut permit);
+            assert!(token > after && token <= after + MAX_GENERATION);
+            assert_eq!(token, after + Permit::generation(&mut permit));
         }
     }
     for after in [greatest + 1, u64::MAX] {
@@ -419,9 +423,11 @@ fn a_board_has_passes_of_its_servers() {
 }
 
 #[test]
-fn a_panic_ends_the_admission() {
-    let board = board(1);
-    board.control().assign(0, 1).unwrap();
+fn a_panic_ends_the_admission_and_is_told() {
+    let board = board(2);
+    for shard in [0, 1] {
+        board.control().assign(shard, 1).unwrap();
+    }
     let mut pass = board.pass(1).unwrap();
     let panics = AssertUnwindSafe(|| {
         pass.with(0, Mode::Direct, |body| {
@@ -430,7 +436,42 @@ fn a_panic_ends_the_admission() {
         })
     });
     assert!(catch_unwind(panics).is_err());
-    assert_eq!(**pass.admit(0, Mode::Direct).unwrap(), [7]);
+    let mut other = board.pass(1).unwrap();
+    let is_poisoned = |pass: &mut Pass<_>, shard| {
+        let told = pass.with(shard, Mode::Direct, |it| Permit::is_poisoned(it));
+        told.unwrap()
+    };
+    assert!(is_poisoned(&mut pass, 0) && is_poisoned(&mut other, 0));
+    assert!(!is_poisoned(&mut other, 1));
+    let mut body = other.admit(0, Mode::Direct).unwrap();
+    assert_eq!(*body, [7]);
+    Permit::clear_poison(&mut body);
+    drop(body);
+    assert!(!is_poisoned(&mut pass, 0));
+}
+
+/// Appends to the body of shard 0 when it is dropped.
+struct Appends<'a>(&'a Board<Vec<u32>>);
+
+impl Drop for Appends<'_> {
+    fn drop(&mut self) {
+        let mut pass = self.0.pass(1).unwrap();
+        pass.admit(0, Mode::Direct).unwrap().push(8);
+    }
+}
+
+#[test]
+fn an_admission_while_another_panic_unwinds_poisons_nothing() {
+    let board = board(1);
+    board.control().assign(0, 1).unwrap();
+    let caught = catch_unwind(|| {
+        let _appends = Appends(&board);
+        panic!("before the admission");
+    });
+    assert!(caught.is_err());
+    let mut pass = board.pass(1).unwrap();
+    let body = pass.admit(0, Mode::Direct).unwrap();
+    assert_eq!((&**body, Permit::is_poisoned(&body)), (&[8][..], false));
 }
 
 #[test]
