@@ -46,6 +46,11 @@ impl Chores {
     pub fn keep_number(&self) {
         self.inner.keep_number();
     }
+
+    /// Tells the leader the loads of the process's shards, if they were measured. A process does so every second.
+    pub fn tell_loads(&self) {
+        self.inner.tell_loads();
+    }
 }
 
 impl fmt::Debug for Chores {

@@ -6,6 +6,7 @@
 //! | `process` | how many processes have begun here |
 //! | `leader` | the process that sends commands, under its lease if there are several processes |
 //! | `server/SERVER` | the server's process, under its lease: its addresses, and its place in the records |
+//! | `load/SERVER` | the loads of the server's shards as it measures them, under its lease |
 //! | `ran/SERVER` | the process of the server that last executed by permits, under no lease |
 //! | `ack/SHARD/SERVER` | up to this generation that process executes by no record, or is prepared for the latest |
 //! | `lowest/SERVER` | the process that ran it last, and the first of the numbers by which it still has requests |
@@ -45,6 +46,8 @@ pub(crate) const STATES: &[u8] = b"state/";
 pub const DRAINS: &[u8] = b"drain/";
 /// The prefix of the keys of servers that were drained.
 pub const DRAINED: &[u8] = b"drained/";
+/// The prefix of the keys of servers' loads.
+pub const LOADS: &[u8] = b"load/";
 /// The prefix of the keys of shards that come home.
 pub const HOMES: &[u8] = b"home/";
 
@@ -162,6 +165,16 @@ pub(crate) fn drain(server: u16) -> Vec<u8> {
 /// Returns the key of a server that was drained.
 pub(crate) fn drained(server: u16) -> Vec<u8> {
     format!("drained/{server:05}").into_bytes()
+}
+
+/// Returns the key of the loads of a server's shards.
+pub(crate) fn load(server: u16) -> Vec<u8> {
+    format!("load/{server:05}").into_bytes()
+}
+
+/// Returns the server of this key, if it is the key of a server's loads.
+pub(crate) fn server_of_load(key: &[u8]) -> Option<u16> {
+    number_behind(key, LOADS)
 }
 
 /// Returns the key of a shard that comes home.

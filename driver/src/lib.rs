@@ -28,6 +28,8 @@ mod kept_lease;
 mod key_list;
 pub mod keys;
 mod lease_clock;
+mod load_meter;
+mod load_report;
 mod lowest;
 #[deny(clippy::disallowed_methods)]
 mod member;
@@ -51,6 +53,7 @@ mod server_run;
 mod server_state;
 #[deny(clippy::disallowed_methods)]
 mod shard;
+mod shard_load;
 mod shard_service;
 mod shard_snapshot;
 mod size;
@@ -83,6 +86,7 @@ pub use route_map::{RouteMap, SeenRoute};
 pub(crate) use server_fault::ServerFault;
 pub use server_run::ServerRun;
 pub use server_state::ServerState;
+pub use shard_load::ShardLoad;
 pub use shard_snapshot::ShardSnapshot;
 pub use stored_record::{takes_part, StoredRecord};
 pub use stored_settings::split_settings;

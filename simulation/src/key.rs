@@ -21,6 +21,9 @@ pub enum DecodedKey {
     /// The drain of a server, and the home of a shard.
     Drain(u16),
     Home(u16),
+    /// That a server was drained, and the loads that a server tells.
+    Drained(u16),
+    Load(u16),
     /// The lowest number under which a server's process still has requests.
     Lowest(u16),
     Head(u16),
@@ -48,6 +51,8 @@ impl DecodedKey {
             ("ack", 2) => DecodedKey::Ack(place(0)?, place(1)?),
             ("drain", 1) => DecodedKey::Drain(place(0)?),
             ("home", 1) => DecodedKey::Home(place(0)?),
+            ("drained", 1) => DecodedKey::Drained(place(0)?),
+            ("load", 1) => DecodedKey::Load(place(0)?),
             ("lowest", 1) => DecodedKey::Lowest(place(0)?),
             ("head", 1) => DecodedKey::Head(place(0)?),
             ("batch", 2) => DecodedKey::Batch(place(0)?, numbers[1]),

@@ -149,6 +149,7 @@ impl WorldModel {
             match *key {
                 DecodedKey::Process | DecodedKey::Commands | DecodedKey::Lowest(_) => {}
                 DecodedKey::Drain(_) | DecodedKey::Home(_) => {}
+                DecodedKey::Drained(_) | DecodedKey::Load(_) => {}
                 DecodedKey::Settings => self.settle(bytes, txn)?,
                 DecodedKey::Leader => self.leader = found(reading::process(bytes), txn)?,
                 DecodedKey::Server(server) => self.follow(server, bytes, revision, txn)?,
@@ -530,9 +531,9 @@ impl WorldModel {
                 self.told.remove(&server);
                 true
             }
-            DecodedKey::Ack(..) => true,
+            DecodedKey::Ack(..) | DecodedKey::Load(_) => true,
             // These intents are done, or are withdrawn.
-            DecodedKey::Drain(_) | DecodedKey::Home(_) => true,
+            DecodedKey::Drain(_) | DecodedKey::Home(_) | DecodedKey::Drained(_) => true,
             _ => false,
         };
         if is_behind {

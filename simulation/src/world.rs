@@ -447,6 +447,7 @@ impl World {
             process.chores.tick();
             if is_second {
                 process.chores.keep_number();
+                process.chores.tell_loads();
             }
         }
     }

@@ -1,5 +1,6 @@
 mod election;
 mod intents;
+mod loads;
 mod settings;
 
 use crate::command::{ControlCommand, Next, Subject};

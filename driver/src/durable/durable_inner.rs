@@ -3,11 +3,12 @@ use super::unread_shards::UnreadShards;
 use super::watches::written;
 use super::{ShardOptions, STOP};
 use crate::clock::Clock;
+use crate::load_meter::LoadMeter;
 use crate::shard::{Action, Shard, Ticket};
 use crate::shard_service::ShardService;
 use crate::{keys, Acks, Member, NotDone, Own, StoredRecord};
 use durkenzo_store::{Outcome, Room, Seen, Store, Transaction, WriteError};
-use std::collections::BTreeSet;
+use std::collections::{BTreeMap, BTreeSet};
 use std::sync::atomic::{AtomicBool, AtomicU64, AtomicUsize, Ordering};
 use std::sync::mpsc::Sender;
 use std::sync::{Arc, Mutex, MutexGuard, OnceLock, PoisonError};
@@ -41,6 +42,7 @@ pub(crate) struct DurableInner {
     /// How many bytes the bases have that are being written.
     pub(super) basing: AtomicU64,
     pub(super) is_stopping: AtomicBool,
+    pub(super) meter: Arc<LoadMeter>,
     /// Why the store has ended, if it has.
     pub(super) ended: OnceLock<String>,
     /// Called for each record that changes.
@@ -88,7 +90,12 @@ impl DurableInner {
                 self.hand_to_reader(ReaderJob::Room(shard, ticket, parts))
             }
             Action::Delete(keys) => self.delete(&keys),
-            Action::Tell(work, outcome) => work.end(outcome),
+            Action::Tell(work, outcome) => {
+                if outcome.is_ok() {
+                    self.meter.count(shard);
+                }
+                work.end(outcome);
+            }
             Action::HandOver(elsewhere, steps) => match &self.own {
                 Some(own) => (own.elsewhere)(elsewhere, steps),
                 None => steps
@@ -218,6 +225,36 @@ impl DurableInner {
             }
         }
         (self.on_change)();
+    }
+
+    /// Tells the leader the loads of the shards that this process executes, if a measurement is over and they are new.
+    pub(crate) fn tell_loads(&self) {
+        let Some((own, lease)) = self
+            .own
+            .as_ref()
+            .and_then(|it| Some((it, it.member.lease()?)))
+        else {
+            return;
+        };
+        let (now, server) = (self.now(), own.member.server());
+        if !self.meter.is_due(now) {
+            return;
+        }
+        let executed: BTreeMap<u16, u64> = (0..)
+            .zip(&self.shards)
+            .filter_map(|(shard, place)| Some((shard, locked(place).bytes_of(server)?)))
+            .collect();
+        if let Some(report) = self.meter.report(now, lease, &executed) {
+            let told =
+                Transaction::new().put_under(keys::load(server), report.bytes(), Some(lease));
+            let meter = self.meter.clone();
+            let done = move |outcome: Result<Outcome, WriteError>| {
+                if outcome.is_err() {
+                    meter.forget_told();
+                }
+            };
+            self.store.submit(told, Box::new(done));
+        }
     }
 
     /// Makes each shard drop the work for which nobody waits, and refuse the work that has waited in vain.

@@ -11,7 +11,7 @@ use std::time::{Duration, Instant};
 const READERS: usize = 4;
 /// How often threads look for work that has waited in vain.
 const TICK: Duration = Duration::from_millis(10);
-/// How often a thread checks whether the process must take another number.
+/// How often a thread checks whether the process must take another number, or has measured loads to tell.
 const NUMBERING: Duration = Duration::from_secs(1);
 /// How often a thread checks whether its wait is over.
 const LOOK: Duration = Duration::from_millis(1);
@@ -36,6 +36,7 @@ impl DurableInner {
             let now = self.now();
             if now.duration_since(numbered) >= NUMBERING {
                 self.keep_number();
+                self.tell_loads();
                 numbered = now;
             }
             self.tick_shards();

@@ -16,6 +16,7 @@ pub(crate) use reader_job::{ReadBack, ReaderJob};
 pub use shard_options::{Reads, ShardOptions};
 
 use crate::clock::Clock;
+use crate::load_meter::LoadMeter;
 use crate::shard::Shard;
 use crate::shard_service::{ShardService, Texts};
 use crate::stored_record::takes_part;
@@ -187,6 +188,7 @@ impl Durable {
             is_full: AtomicBool::new(false),
             basing: AtomicU64::new(0),
             is_stopping: AtomicBool::new(false),
+            meter: Arc::new(LoadMeter::new(shards)),
             ended: OnceLock::new(),
             on_change,
         });
@@ -373,6 +375,17 @@ impl Durable {
         let makes_base = |it: &u16| locked(&self.inner.shards[usize::from(*it)]).makes_base();
         let are_made = || !shards.iter().any(makes_base);
         self.inner.block_until(end, are_made);
+    }
+
+    /// Has this process measure how much its shards have to do, and tell that to the leader, at most every five seconds.
+    /// It is told under the lease of this process's server.
+    pub fn measure_loads(&self) {
+        self.inner.meter.turn_on();
+    }
+
+    /// Counts a request of the shard that a service answers itself. Those that are submitted here are counted anyway.
+    pub fn count_request(&self, shard: u16) {
+        self.inner.meter.count(shard);
     }
 
     /// Returns how many requests that only read were answered without a transaction.

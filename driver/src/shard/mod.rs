@@ -142,6 +142,12 @@ impl Shard {
         &self.stored
     }
 
+    /// Returns how many bytes its base and its log have, if the server owns it, as far as this process has read it.
+    pub(crate) fn bytes_of(&self, server: u16) -> Option<u64> {
+        let owner = self.stored.record().and_then(|it| it.owner());
+        (owner == Some(server)).then(|| self.log.base.saturating_add(self.log.bytes))
+    }
+
     /// Returns the records by which the owner was seen to be the owner, up to the record that was seen last.
     pub(crate) fn ownership(&self) -> Ownership {
         self.ownership
