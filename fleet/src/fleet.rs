@@ -6,7 +6,9 @@ use crate::introduction::Introduction;
 use crate::listener::Listener;
 use crate::settings::Settings;
 use crate::threads::{block_on, Threads};
-use crate::{settings, Enter, JoinError, MeetError, Mode, Options, Safety, Service, Sharding};
+use crate::{
+    settings, Balance, Enter, JoinError, MeetError, Mode, Options, Safety, Service, Sharding,
+};
 use durkenzo_control::descriptors::raise_limit;
 use durkenzo_control::links::be_accepted;
 use durkenzo_driver::{Addresses, Durable, JoinFault, Member, ShardOptions};
@@ -192,6 +194,9 @@ fn joined<S: Service>(
     let threads = Threads::new(Connections::new(introduction));
     let (shards, shard_options, own) = (sharding.shards(), ShardOptions::default(), own(&member));
     let durable = Durable::open_one(store, shards, shard_options, own, notices.teller())?;
+    if options.balance != Balance::Off {
+        durable.measure_loads();
+    }
     let (of_record, threads) = ((member, Arc::new(durable)), Arc::new(threads));
     let environment = threads.clone();
     let inner = FleetInner::new(

@@ -179,13 +179,16 @@ impl<S: Service> FleetInner<S> {
             return self.onward(&known, from);
         }
         match BodyGuard::new(body).filter(|_| known.body_is_of.is_some()) {
-            Some(body) => Enter::Here(Permit {
-                fleet: self,
-                body,
-                view: known.view,
-                from,
-                shard: Shard::new(shard, known.fence()),
-            }),
+            Some(body) => {
+                self.durable.count_request(shard);
+                Enter::Here(Permit {
+                    fleet: self,
+                    body,
+                    view: known.view,
+                    from,
+                    shard: Shard::new(shard, known.fence()),
+                })
+            }
             None if known.failed_adds > 0 => {
                 Enter::Wait("the service fails to add the shard, as its process tells")
             }

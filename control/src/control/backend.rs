@@ -1,7 +1,7 @@
 use super::advance::Advance;
 use super::Refusal;
 use durkenzo::{ChangeFault, Plan, PlanFault, Record, RestartFault};
-use durkenzo_driver::{ControlCommand, Intent, Next, Refused, ServerState};
+use durkenzo_driver::{ControlCommand, Intent, Next, Refused, ServerState, ShardLoad};
 use durkenzo_store::WriteError;
 use std::fmt;
 use thiserror::Error;
@@ -82,6 +82,11 @@ pub trait Backend: Send {
     /// Returns the first server to which requests go although it isn't there, if there is one.
     fn fallen(&mut self) -> Result<Option<u16>, BackendFault> {
         Ok(None)
+    }
+
+    /// Returns the loads of shards, as servers have told them: the server, the shard and its load.
+    fn loads(&mut self) -> Result<Vec<(u16, u16, ShardLoad)>, BackendFault> {
+        Ok(Vec::new())
     }
 
     /// Returns all intents that weren't withdrawn, if they outlive the process.

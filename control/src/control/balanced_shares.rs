@@ -56,10 +56,7 @@ impl BalancedShares {
     /// # Errors
     ///
     /// If the store can't be read.
-    pub(super) fn of(
-        control: &mut Controller,
-        weight_of: impl Fn(u16) -> u64,
-    ) -> Result<BalancedShares, Refusal> {
+    pub(super) fn of(control: &mut Controller) -> Result<BalancedShares, Refusal> {
         let mut shares = BalancedShares::default();
         for server in 1..=control.backend.servers() {
             let is_up = control.backend.state_of(server)? == ServerState::Up;
@@ -68,7 +65,12 @@ impl BalancedShares {
             }
         }
         for shard in 0..control.backend.shards() {
-            let weight = weight_of(shard);
+            let weight = control
+                .loads
+                .get(&shard)
+                .copied()
+                .unwrap_or_default()
+                .weight();
             let stand = control.backend.record(shard)?.map(|it| it.stand);
             let at = match stand {
                 Some(Stand::Prepared { next, .. } | Stand::Forwarding { next, .. }) => next,
@@ -234,13 +236,13 @@ mod tests {
         let backend = PlainBackend::of(4, Stand::Serving(1));
         let mut control = backend.control();
         control.homes.extend([(0, 2), (1, 2), (2, 2)]);
-        let mut found = BalancedShares::of(&mut control, |_| 1).unwrap();
+        let mut found = BalancedShares::of(&mut control).unwrap();
         let moved = found.next(&LeftOut::default()).unwrap();
         assert_eq!((moved.shard, moved.from, moved.to), (3, 1, 2));
         assert_eq!((moved.from_weight, moved.to_weight), (4, 0));
         assert_eq!(found.next(&LeftOut::default()), None);
         control.kept_empty.insert(2);
-        let mut found = BalancedShares::of(&mut control, |_| 1).unwrap();
+        let mut found = BalancedShares::of(&mut control).unwrap();
         assert_eq!(found.next(&LeftOut::default()), None);
     }
 
@@ -248,7 +250,7 @@ mod tests {
     fn a_shard_on_its_way_counts_where_it_goes() {
         let backend = PlainBackend::of(4, Stand::Serving(1));
         backend.plain().stands[..2].fill(Stand::Prepared { owner: 1, next: 2 });
-        let mut found = BalancedShares::of(&mut backend.control(), |_| 1).unwrap();
+        let mut found = BalancedShares::of(&mut backend.control()).unwrap();
         assert!(!found.is_uneven(true));
         assert_eq!(found.next(&LeftOut::default()), None);
     }

@@ -72,7 +72,8 @@ impl Balancer {
         if now >= self.left_out_until {
             self.left_out = LeftOut::default();
         }
-        let mut shares = BalancedShares::of(control, |_| 1)?;
+        control.read_loads()?;
+        let mut shares = BalancedShares::of(control)?;
         self.is_evening = shares.is_uneven(self.is_evening);
         for _ in 0..self.balance.most_at_once() {
             match shares.next(&self.left_out).filter(|_| self.is_evening) {
@@ -164,6 +165,7 @@ mod tests {
     use super::super::plain_backend::{asked, PlainBackend};
     use super::*;
     use durkenzo::Stand;
+    use durkenzo_driver::ShardLoad;
 
     /// A control with a balancer, over shards that all are at server 1.
     struct Balanced {
@@ -244,6 +246,60 @@ mod tests {
             .unwrap();
         let moved = slow.after(60);
         assert!((3..=4).contains(&moved), "{moved}");
+    }
+
+    /// Has each server tell its shards' loads. It measures a shard for five seconds before it tells that one.
+    fn tell_loads(slow: &Balanced, loads: &[u32], owners: &mut Vec<Stand>) {
+        let mut plain = slow.backend.plain();
+        let known = owners.iter().zip(&plain.stands).map(|it| it.0 == it.1);
+        let rows = (0..).zip(&plain.stands).zip(loads).zip(known);
+        let told = rows.filter_map(|(((shard, stand), requests), is_known)| {
+            let Stand::Serving(owner) = *stand else {
+                return None;
+            };
+            let load = ShardLoad {
+                requests: *requests,
+                kibibytes: 0,
+            };
+            is_known.then_some((owner, shard, load))
+        });
+        plain.loads = told.collect();
+        owners.clone_from(&plain.stands);
+    }
+
+    /// Of 256 shards the k-th has a load of k to the power of -0.8, and each of eight servers has the same number. By a
+    /// power of -1, the first shard alone would be 1.3 times the mean.
+    #[test]
+    fn a_load_by_zipf_evens_out_within_a_minute_by_few_moves() {
+        for balance in [Balance::Slow, Balance::Fast] {
+            let mut it = Balanced::of(256, balance);
+            it.backend.plain().servers = 8;
+            let begun: Vec<_> = (0..256).map(|it| Stand::Serving(it / 32 + 1)).collect();
+            it.backend.plain().stands.clone_from(&begun);
+            let loads = (1..=256).map(|it| (20_000.0 / f64::from(it).powf(0.8)) as u32);
+            let loads: Vec<u32> = loads.collect();
+            let mut owners = begun.clone();
+            for _ in 0..12 {
+                tell_loads(&it, &loads, &mut owners);
+                it.after(5);
+            }
+            let stands = it.backend.plain().stands.clone();
+            let load_of = |server| {
+                let own = stands
+                    .iter()
+                    .zip(&loads)
+                    .filter(|it| *it.0 == Stand::Serving(server));
+                own.map(|it| *it.1).sum::<u32>()
+            };
+            let of_servers: Vec<u32> = (1..=8).map(load_of).collect();
+            let (most, sum) = (
+                of_servers.iter().max().unwrap(),
+                of_servers.iter().sum::<u32>(),
+            );
+            assert!(most * 8 * 10 <= sum * 12, "{of_servers:?}");
+            let moves = it.backend.plain().balanced;
+            assert!((1..=25).contains(&moves), "{moves}, {of_servers:?}");
+        }
     }
 
     #[test]

@@ -11,7 +11,7 @@ use super::task::{Task, TaskWork};
 use super::word_table::{self, Begun, ControlMode};
 use super::{Asked, ControlHost, OtherControls, Refusal, ReplyTo};
 use durkenzo::Stand;
-use durkenzo_driver::{Clock, ControlCommand, Next, Refused, ServerState, Subject};
+use durkenzo_driver::{Clock, ControlCommand, Next, Refused, ServerState, ShardLoad, Subject};
 use std::collections::{BTreeMap, BTreeSet, VecDeque};
 use std::fmt;
 use std::sync::Arc;
@@ -49,6 +49,8 @@ pub struct Controller {
     /// The servers that were drained, where that outlives the process. They get no shard unless somebody asks for that,
     /// until a spread or `SM UNDRAIN`.
     pub(super) kept_empty: BTreeSet<u16>,
+    /// The load of each shard, as its owner told it last.
+    pub(super) loads: BTreeMap<u16, ShardLoad>,
     /// The other processes, if this one leads several.
     pub(super) peers: Option<Arc<dyn OtherControls>>,
     /// Whether another process leads, as far as a command's outcome has shown.
@@ -77,6 +79,7 @@ impl Controller {
             draining: None,
             drained: BTreeSet::new(),
             kept_empty: BTreeSet::new(),
+            loads: BTreeMap::new(),
             peers: None,
             is_lost: false,
             has_fallen: false,
@@ -272,6 +275,17 @@ impl Controller {
     /// Returns whether the server gets no shard unless somebody asks for that, because it is or was drained.
     pub(super) fn is_kept_empty(&self, server: u16) -> bool {
         self.drained.contains(&server) || self.kept_empty.contains(&server)
+    }
+
+    /// Reads the loads of shards that their owners have told. A shard that has moved keeps its load until its new owner
+    /// has measured it.
+    pub(super) fn read_loads(&mut self) -> Result<(), Refusal> {
+        for (server, shard, load) in self.backend.loads()? {
+            if self.is_at(shard, server)? {
+                self.loads.insert(shard, load);
+            }
+        }
+        Ok(())
     }
 
     /// Returns the mode of the control, on which the available words depend.
@@ -592,6 +606,26 @@ mod tests {
         assert_eq!(busy.try_recv(), Ok(Ok(ControlAnswer::Done)));
         assert_eq!(control.wait(), None);
         assert_eq!(backend.plain().stands, [Stand::Serving(1); 2]);
+    }
+
+    #[test]
+    fn a_shard_that_moved_keeps_its_load_until_its_new_owner_has_told_one() {
+        let backend = PlainBackend::of(1, Stand::Serving(1));
+        let load = |requests| ShardLoad {
+            requests,
+            ..ShardLoad::default()
+        };
+        let mut control = backend.control();
+        for (owner, told, known) in [
+            (1, (1, 0, load(9)), 9),
+            (2, (1, 0, load(4)), 9),
+            (2, (2, 0, load(8)), 8),
+        ] {
+            backend.plain().stands[0] = Stand::Serving(owner);
+            backend.plain().loads = vec![told];
+            control.read_loads().unwrap();
+            assert_eq!(control.loads, [(0, load(known))].into());
+        }
     }
 
     #[test]

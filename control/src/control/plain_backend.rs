@@ -4,14 +4,17 @@ use super::controller::Controller;
 use super::progress::Doing;
 use super::{Asked, ControlAnswer, ControlHost, Refusal, ReplyTo, Words};
 use durkenzo::{ChangeFault, Move, Plan, Record, RestartFault, Stand};
-use durkenzo_driver::{Clock, ControlCommand, Intent, Next, Refused, ServerState, Subject};
+use durkenzo_driver::{
+    Clock, ControlCommand, Intent, Next, Refused, ServerState, ShardLoad, Subject,
+};
 use durkenzo_store::WriteError;
 use std::collections::{BTreeMap, BTreeSet, VecDeque};
 use std::sync::mpsc::{channel, Receiver, Sender};
 use std::sync::{Arc, Mutex, MutexGuard};
 use std::time::{Duration, Instant};
 
-/// Two servers, each of which takes all shards of the other. A test shares the parts that it looks at or breaks.
+/// Two servers, each of which takes all shards of the other, or several. A test shares the parts that it looks at or
+/// breaks.
 #[derive(Clone)]
 pub(super) struct PlainBackend(Arc<Mutex<Plain>>);
 
@@ -20,6 +23,10 @@ pub(super) struct Plain {
     /// How much time has passed, as the test sets it.
     pub(super) passed: Duration,
     pub(super) stands: Vec<Stand>,
+    /// The number of servers.
+    pub(super) servers: u16,
+    /// The loads that servers have told.
+    pub(super) loads: Vec<(u16, u16, ShardLoad)>,
     pub(super) lasts: bool,
     /// Whether the other server has no room for shards.
     pub(super) is_full: bool,
@@ -39,6 +46,8 @@ pub(super) struct Plain {
     pub(super) approved: Option<u16>,
     /// The control's notes about servers.
     pub(super) doing: BTreeMap<u16, Doing>,
+    /// How many shards the control moved to even out servers.
+    pub(super) balanced: usize,
 }
 
 impl PlainBackend {
@@ -46,6 +55,8 @@ impl PlainBackend {
     pub(super) fn of(shards: usize, stand: Stand) -> PlainBackend {
         let plain = Plain {
             stands: vec![stand; shards],
+            servers: 2,
+            loads: Vec::new(),
             beginning: Clock::default().now(),
             passed: Duration::ZERO,
             lasts: false,
@@ -58,6 +69,7 @@ impl PlainBackend {
             busy: BTreeMap::new(),
             approved: None,
             doing: BTreeMap::new(),
+            balanced: 0,
         };
         PlainBackend(Arc::new(Mutex::new(plain)))
     }
@@ -150,7 +162,7 @@ fn other(server: u16) -> u16 {
 
 impl Backend for PlainBackend {
     fn servers(&self) -> u16 {
-        2
+        self.plain().servers
     }
 
     fn shards(&self) -> u16 {
@@ -206,14 +218,21 @@ impl Backend for PlainBackend {
     }
 
     fn state_of(&mut self, server: u16) -> Result<ServerState, BackendFault> {
-        match server {
-            1 | 2 if self.plain().approved == Some(server) => Ok(ServerState::Approved),
-            1 | 2 => Ok(ServerState::Up),
-            _ => Err(RestartFault::UnknownServer.into()),
+        let plain = self.plain();
+        if !(1..=plain.servers).contains(&server) {
+            return Err(RestartFault::UnknownServer.into());
         }
+        Ok(match plain.approved == Some(server) {
+            true => ServerState::Approved,
+            false => ServerState::Up,
+        })
     }
 
     fn show_state(&mut self, _server: u16, _state: ServerState) {}
+
+    fn loads(&mut self) -> Result<Vec<(u16, u16, ShardLoad)>, BackendFault> {
+        Ok(self.plain().loads.clone())
+    }
 
     fn intents(&mut self) -> Result<Vec<Intent>, BackendFault> {
         Ok(self.plain().intents.clone())
@@ -295,6 +314,12 @@ impl ControlHost for QuietHost {
     }
 
     fn note_change(&self, _command: ControlCommand) {}
+
+    fn note_balanced(&self) {
+        if let Some(backend) = &self.noting {
+            backend.plain().balanced += 1;
+        }
+    }
 
     fn note_load(&self) {}
 

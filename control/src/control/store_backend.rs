@@ -1,6 +1,8 @@
 use super::backend::{Backend, BackendFault};
 use durkenzo::{Plan, Record};
-use durkenzo_driver::{ControlCommand, Durable, DurableControl, Intent, Next, ServerState};
+use durkenzo_driver::{
+    ControlCommand, Durable, DurableControl, Intent, Next, ServerState, ShardLoad,
+};
 use std::fmt;
 use std::sync::Arc;
 
@@ -91,6 +93,10 @@ impl Backend for StoreBackend {
 
     fn fallen(&mut self) -> Result<Option<u16>, BackendFault> {
         Ok(self.control.fallen()?)
+    }
+
+    fn loads(&mut self) -> Result<Vec<(u16, u16, ShardLoad)>, BackendFault> {
+        Ok(self.control.loads()?)
     }
 
     fn intents(&mut self) -> Result<Vec<Intent>, BackendFault> {

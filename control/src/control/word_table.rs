@@ -200,7 +200,7 @@ impl SmWord {
 
 /// All words.
 #[rustfmt::skip]
-const WORDS: [SmWord; 38] = [
+const WORDS: [SmWord; 39] = [
     SmWord::new("SHARDS", "the stand of each shard, below the columns' names; other is its next or previous owner",
         Does::Bare(|it| Ok(ControlAnswer::Lines(it.host.shard_lines()).into()))).of_all(),
     SmWord::new("SERVERS", "the state of each server, below the columns' names: the shards that it owns, admissions, \
@@ -235,6 +235,9 @@ const WORDS: [SmWord; 38] = [
     SmWord::new("UNDRAIN a", "where data outlives the process: server a, which was drained, gets shards by itself again; \
         SPREAD does that for all servers", Does::Number(undrain)).only(There::Stores),
     SmWord::new("SPREAD", "migrates shards from servers that have many to those that have few", Does::Bare(spread)),
+    SmWord::new("WEIGHTS", "the load of each shard, below the columns' names, by which --balance evens out servers: \
+        requests a second, KiB in the store, and its weight of one, one for each request and one for each MiB",
+        Does::Bare(weights)).only(There::Cluster).of_all(),
     SmWord::new("PLAN a", "where DRAIN a would move shards; nothing is moved", Does::Number(plan_of)),
     SmWord::new("PLAN", "where PLACE would put vacant shards; nothing is moved", Does::Bare(|it| plan(it, 0))),
     SmWord::new("PLACE", "gives each vacant shard an owner, as planned by the library",
@@ -373,6 +376,20 @@ fn undrain(control: &mut Controller, server: u16) -> Begins {
     Ok(ControlAnswer::Done.into())
 }
 
+/// Returns the load of each shard, as its owner told it last, and its weight.
+fn weights(control: &mut Controller) -> Begins {
+    control.read_loads()?;
+    let mut lines = vec!["shard owner requests kibibytes weight".to_owned()];
+    for shard in 0..control.backend.shards() {
+        let owner = control.backend.record(shard)?.and_then(|it| it.owner());
+        let owner = owner.map_or("-".to_owned(), |it| it.to_string());
+        let load = control.loads.get(&shard).copied().unwrap_or_default();
+        let (requests, kibibytes, weight) = (load.requests, load.kibibytes, load.weight());
+        lines.push(format!("{shard} {owner} {requests} {kibibytes} {weight}"));
+    }
+    Ok(ControlAnswer::Lines(lines).into())
+}
+
 fn plan_of(control: &mut Controller, server: u16) -> Begins {
     match server {
         0 => Err(Refusal::unknown_server()),
@@ -431,7 +448,26 @@ fn meanings(asked: &str) -> Vec<String> {
 
 #[cfg(test)]
 mod tests {
+    use super::super::plain_backend::PlainBackend;
     use super::*;
+    use durkenzo::Stand;
+    use durkenzo_driver::ShardLoad;
+
+    #[test]
+    fn weights_are_by_the_loads_that_owners_told() {
+        let backend = PlainBackend::of(3, Stand::Serving(1));
+        backend.plain().stands[2] = Stand::Vacant;
+        let load = ShardLoad {
+            requests: 7,
+            kibibytes: 2_048,
+        };
+        backend.plain().loads = vec![(1, 0, load), (2, 1, load)];
+        let Ok(Begun::Answer(ControlAnswer::Lines(lines))) = weights(&mut backend.control()) else {
+            panic!("it isn't answered");
+        };
+        let named = "shard owner requests kibibytes weight";
+        assert_eq!(lines, [named, "0 1 7 2048 10", "1 1 0 0 1", "2 - 0 0 1"]);
+    }
 
     #[test]
     fn words_and_names_have_a_meaning() {

@@ -8,6 +8,7 @@ use crate::safety::Safety;
 use crate::settings;
 use crate::storage::{OnEtcd, Storage};
 use crate::works::Peers;
+use durkenzo_control::control::Balance;
 use durkenzo_control::links::{checksum, Admission, Identity, Terms};
 use durkenzo_driver::{keys, Acks, Addresses, Durable, JoinFault, Member, Own};
 use durkenzo_store::{
@@ -65,6 +66,9 @@ impl Joined {
         };
         let (shards, shard_options) = (configuration.rule.shards(), configuration.shard_options());
         let durable = Durable::open_one(store, shards, shard_options, own, Box::new(|| {}))?;
+        if configuration.balance != Balance::Off {
+            durable.measure_loads();
+        }
         Ok(Joined {
             durable: Arc::new(durable),
             peers,
