@@ -47,8 +47,11 @@ pub enum Subject {
 }
 
 /// The kinds of a command, by its subject.
-enum Given {
+#[derive(Clone, Copy, Debug, PartialEq, Eq)]
+pub enum Given {
+    /// A change of this shard.
     Shard(u16, Change),
+    /// A step of this server's restart.
     Server(u16, RestartStep),
 }
 
@@ -79,7 +82,8 @@ impl ControlCommand {
         }
     }
 
-    fn given(self) -> Given {
+    /// Returns its change or its step.
+    pub fn given(self) -> Given {
         match self {
             ControlCommand::Assign(shard, server) => Given::Shard(shard, Change::Assign(server)),
             ControlCommand::PrepareAddShard(shard, server) => {

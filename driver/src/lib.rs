@@ -65,7 +65,7 @@ pub use acks::Acks;
 pub use addresses::Addresses;
 pub use chores::Chores;
 pub use clock::Clock;
-pub use command::{ControlCommand, Next, Subject};
+pub use command::{ControlCommand, Given, Next, Subject};
 pub use command_fault::CommandFault;
 pub use compact_fault::CompactFault;
 pub use control::DurableControl;

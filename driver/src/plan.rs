@@ -1,6 +1,6 @@
 //! A plan of moves, which is made with a proved board that is opened for it.
 use crate::{CommandFault, Refused, ServerState};
-use durkenzo::{Board, Plan, PlanFault, Stand};
+use durkenzo::{Board, Plan, PlanFault, ServerId, Stand, MAX_SERVER};
 use std::fmt::Display;
 
 /// Plans the moves of the server's shards, or of the vacant shards if `server` is 0, with these settings. `stands` and
@@ -14,12 +14,12 @@ pub(crate) fn planned(
     let bodies = stands.iter().map(|_| ());
     let (board, _) = Board::by_settings(line, bodies).map_err(unplanned)?;
     let control = board.control();
-    for (shard, stand) in (0..).zip(stands) {
+    for (shard, stand) in board.shards().zip(stands) {
         control.restore(shard, *stand).map_err(unplanned)?;
     }
     // A server that has failed counts for the caps by which others were approved before.
     for has_failed in [false, true] {
-        for (server, state) in (1..).zip(states) {
+        for (server, state) in ServerId::all(MAX_SERVER).zip(states) {
             if (*state == ServerState::Failed) == has_failed {
                 have_stand(&control, server, *state).map_err(unplanned)?;
             }
@@ -27,7 +27,9 @@ pub(crate) fn planned(
     }
     let plan = match server {
         0 => control.plan_assign(),
-        server => control.plan_drain(server),
+        server => ServerId::new(server)
+            .map_err(|_| PlanFault::UnknownServer)
+            .and_then(|server| control.plan_drain(server)),
     };
     plan.map_err(|fault| match fault {
         PlanFault::UnknownServer => Refused::Judged(CommandFault::UnknownServer),
@@ -38,7 +40,7 @@ pub(crate) fn planned(
 /// Makes the steps that lead a server from up to this state.
 fn have_stand(
     control: &durkenzo::Control<()>,
-    server: u16,
+    server: ServerId,
     state: ServerState,
 ) -> Result<(), durkenzo::RestartFault> {
     let made = match state {
@@ -66,7 +68,7 @@ fn unplanned(why: impl Display) -> Refused {
 #[cfg(test)]
 mod tests {
     use super::*;
-    use durkenzo::Move;
+    use durkenzo::{Move, ShardId};
 
     const LINE: &str = r#"{"version": 2, "bounds": ["", "m"], "groups": [{"limit": 2, "down": 2}], "ops": 1,
         "kept": 9, "ceiling": 1000, "workers": 1, "domains": [{"domain": 0, "down": 1}],
@@ -81,18 +83,19 @@ mod tests {
         };
         let up = [ServerState::Up; 3];
         let owned = [Stand::Serving(1), Stand::Serving(1)];
-        let to = |server| Move { shard: 0, server };
-        let found = plan(owned, up, 1).unwrap();
-        let second = Move {
-            shard: 1,
-            server: 3,
+        let moved = |shard, server| Move {
+            shard: ShardId::new(shard).unwrap(),
+            server: ServerId::new(server).unwrap(),
         };
-        assert_eq!((found.moves, found.left), (vec![to(2), second], vec![]));
+        let found = plan(owned, up, 1).unwrap();
+        let wanted = vec![moved(0, 2), moved(1, 3)];
+        assert_eq!((found.moves, found.left), (wanted, vec![]));
         let away = [ServerState::Approved, ServerState::Up, ServerState::Failed];
         let found = plan(owned, away, 1).unwrap();
-        assert_eq!((found.moves, found.left), (vec![to(2)], vec![1]));
+        let left = vec![ShardId::new(1).unwrap()];
+        assert_eq!((found.moves, found.left), (vec![moved(0, 2)], left));
         let found = plan([Stand::Vacant, Stand::Paused(2)], up, 0).unwrap();
-        assert_eq!((found.moves, found.left), (vec![to(1)], vec![]));
+        assert_eq!((found.moves, found.left), (vec![moved(0, 1)], vec![]));
         assert!(matches!(
             plan(owned, up, 9),
             Err(Refused::Judged(CommandFault::UnknownServer))

@@ -5,8 +5,8 @@ use crate::fleet_inner::FleetInner;
 use crate::frame::{CallFrame, Request, Response, MOST};
 use crate::place::Place;
 use crate::queue::{Turn, LOOK};
-use crate::{Destination, Enter, Mode, Permit, Service};
-use durkenzo::MOST_HOPS;
+use crate::{Destination, Enter, Mode, Permit, Refused, Service};
+use durkenzo::{ServerId, MOST_HOPS};
 use durkenzo_control::links::NO_SERVER;
 use std::borrow::Cow;
 use std::sync::atomic::Ordering;
@@ -135,11 +135,11 @@ impl<S: Service> FleetInner<S> {
         turn: &mut Option<Turn<'_>>,
         out: &mut Vec<u8>,
     ) -> Result<(Destination, u16), Step> {
-        let mode = match call.from {
-            NO_SERVER => Mode::Direct,
-            from => Mode::Forwarded(from),
+        let entered = match mode_of(call.from) {
+            Ok(mode) => self.enter(call.shard, mode).await,
+            Err(why) => Enter::Refused(why),
         };
-        match self.enter(call.shard, mode).await {
+        match entered {
             Enter::Here(permit) => {
                 drop(turn.take());
                 self.execute(permit, call, waits, out).await;
@@ -236,4 +236,14 @@ fn returned(bytes: &[u8], out: &mut Vec<u8>) -> Step {
         Err(error) => Response::Unsure(&error.to_string()).write(out),
     }
     Step::Done
+}
+
+/// Returns how a call came that this server forwarded, or that a client sent if it is `NO_SERVER`.
+fn mode_of(from: u16) -> Result<Mode, Refused> {
+    match from {
+        NO_SERVER => Ok(Mode::Direct),
+        from => ServerId::new(from)
+            .map(Mode::Forwarded)
+            .map_err(|_| Refused::UnknownServer),
+    }
 }

@@ -158,10 +158,7 @@ impl<S: Service> FleetInner<S> {
         let place = place.ok_or(Refused::UnknownShard)?;
         match mode {
             Mode::Direct => Ok((place, 0)),
-            Mode::Forwarded(server) if (1..=durkenzo::MAX_SERVER).contains(&server) => {
-                Ok((place, server))
-            }
-            Mode::Forwarded(_) => Err(Refused::UnknownServer),
+            Mode::Forwarded(server) => Ok((place, server.get())),
         }
     }
 

@@ -126,7 +126,7 @@ mod trial;
 pub use async_router::AsyncRouter;
 pub use call_error::CallError;
 pub use changes::{Changes, Piece};
-pub use durkenzo::Mode;
+pub use durkenzo::{Mode, ServerId};
 pub use durkenzo_control::control::Balance;
 pub use durkenzo_store::KeyPrefix;
 pub use enter::{Destination, Enter, Refused};

@@ -168,10 +168,11 @@ impl Sharding {
 
     /// Returns the shard of a key. The key may be any bytes.
     pub fn shard_of(&self, key: &[u8]) -> u16 {
-        match self.hashes {
+        let shard = match self.hashes {
             true => self.layout.shard_of(hexadecimal(hash(key))),
             false => self.layout.shard_of(key),
-        }
+        };
+        shard.get()
     }
 
     /// Returns the line of settings for this sharding and this many servers.

@@ -5,7 +5,7 @@ use crate::passes::{Passes, RequestTarget};
 use crate::stats::Stats;
 use crate::storage::{InMemory, Storage};
 use crate::wait::NotAdmitted;
-use durkenzo::{AdmitFault, PassFault, Permit};
+use durkenzo::{AdmitFault, PassFault, Permit, ServerId};
 use std::sync::Arc;
 
 /// A thread's access to shards in memory. Over a store, threads don't access shards themselves: each admission is
@@ -108,6 +108,8 @@ impl Admission {
         work: impl FnOnce(&mut BoxedBody) -> R,
     ) -> Result<R, NotAdmitted> {
         let passes = self.passes.as_mut().ok_or(NO_PASSES)?;
+        let server = ServerId::new(server);
+        let server = server.map_err(|_| NotAdmitted::Refused(AdmitFault::BadServer))?;
         passes.admit(RequestTarget::direct(server, true), shard, |permit| {
             work(permit)
         })

@@ -65,7 +65,7 @@ impl Keyspace {
     pub fn shard_of(&self, key: &[u8]) -> u16 {
         match self {
             Keyspace::Hash { shards } => remainder(hash_of_tag(key), *shards),
-            Keyspace::Ranges(layout) => layout.shard_of(key),
+            Keyspace::Ranges(layout) => layout.shard_of(key).get(),
         }
     }
 
@@ -76,7 +76,7 @@ impl Keyspace {
             Keyspace::Hash { shards } => 0..=shards - 1,
             Keyspace::Ranges(layout) => {
                 let last = high.map_or(layout.count() as u16 - 1, |it| last_below(layout, it));
-                layout.shard_of(low)..=last
+                layout.shard_of(low).get()..=last
             }
         }
     }
@@ -91,8 +91,8 @@ impl Keyspace {
 fn last_below(layout: &Layout, high: &[u8]) -> u16 {
     let shard = layout.shard_of(high);
     match layout.range(shard) {
-        Some((low, _)) if low == high => shard.saturating_sub(1),
-        _ => shard,
+        Some((low, _)) if low == high => shard.get().saturating_sub(1),
+        _ => shard.get(),
     }
 }
 

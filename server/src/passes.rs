@@ -4,7 +4,9 @@ use crate::cluster::Cluster;
 use crate::stats::Stats;
 use crate::storage::InMemory;
 use crate::wait::{NotAdmitted, Wait};
-use durkenzo::{AdmitFault, Mode, Pass, PassFault, Permit, Record, MOST_HOPS};
+use durkenzo::{
+    AdmitFault, Mode, Pass, PassFault, Permit, Record, ServerId, ShardId, MAX_SERVER, MOST_HOPS,
+};
 use std::fmt;
 use std::sync::Arc;
 
@@ -14,7 +16,7 @@ const MOST_TURNS: u32 = 8;
 /// The server to which a request goes, and how it got there.
 #[derive(Clone, Copy, Debug)]
 pub(crate) struct RequestTarget {
-    server: u16,
+    server: ServerId,
     mode: Mode,
     hops: u8,
     /// Whether the request may go only to this server and to the one that it forwards to.
@@ -23,7 +25,7 @@ pub(crate) struct RequestTarget {
 
 impl RequestTarget {
     /// Makes the target of a request that comes from a client.
-    pub(crate) fn direct(server: u16, is_fixed: bool) -> RequestTarget {
+    pub(crate) fn direct(server: ServerId, is_fixed: bool) -> RequestTarget {
         let (mode, hops) = (Mode::Direct, 0);
         RequestTarget {
             server,
@@ -43,7 +45,7 @@ pub(crate) struct Passes {
     passes: Vec<Option<Pass<BoxedBody>>>,
     /// The server that last executed each shard, as far as this thread knows. If that is out of date, the server
     /// refuses with the record.
-    routes: Box<[u16]>,
+    routes: Box<[ServerId]>,
     version: u64,
     /// How often it looks for a shard's server.
     turns: u32,
@@ -64,7 +66,7 @@ impl Passes {
     ) -> Result<Passes, PassFault> {
         let mut passes = Passes {
             passes: (0..cluster.presence.servers()).map(|_| None).collect(),
-            routes: vec![1; cluster.shards().into()].into(),
+            routes: vec![ServerId::FIRST; cluster.shards().into()].into(),
             version: 0,
             turns: cluster.configuration.spins.saturating_add(MOST_TURNS),
             executed_by: 0,
@@ -88,8 +90,8 @@ impl Passes {
     fn renew(&mut self) -> Result<(), PassFault> {
         let version = self.cluster.presence.version();
         let board = self.memory.board();
-        for (server, pass) in (1..).zip(&mut self.passes) {
-            let is_reached = self.cluster.presence.is_reached(server);
+        for (server, pass) in ServerId::all(MAX_SERVER).zip(&mut self.passes) {
+            let is_reached = self.cluster.presence.is_reached(server.get());
             match pass {
                 Some(_) if !is_reached => *pass = None,
                 None if is_reached => *pass = Some(board.pass(server)?),
@@ -126,13 +128,14 @@ impl Passes {
         shard: u16,
         work: impl FnOnce(&mut Permit<'_, BoxedBody>) -> R,
     ) -> Result<R, NotAdmitted> {
+        let at = ShardId::new(shard).map_err(|_| unknown_shard())?;
         for _ in 0..self.turns {
-            let index = usize::from(target.server) - 1;
+            let index = target.server.index();
             let Some(pass) = self.passes[index].as_mut() else {
                 self.around(shard, &mut target)?;
                 continue;
             };
-            let fault = match pass.admit(shard, target.mode) {
+            let fault = match pass.admit(at, target.mode) {
                 Ok(mut permit) => {
                     let done = work(&mut permit);
                     self.memory.note_keys(shard, permit.keys());
@@ -184,10 +187,8 @@ impl Passes {
         read: Record,
         fault: AdmitFault,
     ) -> Result<(), NotAdmitted> {
-        if let Some(server) = read
-            .forward(target.server)
-            .filter(|_| target.hops < MOST_HOPS)
-        {
+        let next = fault.forward(target.server);
+        if let Some(server) = next.filter(|_| target.hops < MOST_HOPS) {
             let (mode, hops) = (Mode::Forwarded(target.server), target.hops + 1);
             *target = RequestTarget {
                 server,
@@ -197,7 +198,7 @@ impl Passes {
             };
             return Ok(());
         }
-        match read.owner() {
+        match owner(read) {
             _ if target.is_fixed => Err(NotAdmitted::Refused(fault)),
             Some(owner) => {
                 self.routes[usize::from(shard)] = owner;
@@ -223,15 +224,14 @@ impl Passes {
     #[cold]
     #[inline(never)]
     fn around(&mut self, shard: u16, target: &mut RequestTarget) -> Result<(), NotAdmitted> {
-        let away = NotAdmitted::Wait(Wait::Unreachable(shard, target.server));
+        let away = NotAdmitted::Wait(Wait::Unreachable(shard, target.server.get()));
         if target.hops > 0 {
             return Err(away);
         }
         let pass = self.passes.iter_mut().flatten().next().ok_or(away)?;
-        let record = pass
-            .look(shard)
-            .map_err(|_| NotAdmitted::Refused(AdmitFault::UnknownShard))?;
-        match record.owner() {
+        let at = ShardId::new(shard).map_err(|_| unknown_shard())?;
+        let record = pass.look(at).map_err(|_| unknown_shard())?;
+        match owner(record) {
             Some(owner) if owner != target.server && !target.is_fixed => {
                 self.routes[usize::from(shard)] = owner;
                 *target = RequestTarget::direct(owner, false);
@@ -241,6 +241,15 @@ impl Passes {
             _ => Err(away),
         }
     }
+}
+
+fn unknown_shard() -> NotAdmitted {
+    NotAdmitted::Refused(AdmitFault::UnknownShard)
+}
+
+/// Returns the server that owns the shard of this record.
+fn owner(read: Record) -> Option<ServerId> {
+    read.owner().and_then(|it| ServerId::new(it).ok())
 }
 
 impl fmt::Debug for Passes {

@@ -1,9 +1,10 @@
 //! Texts of the library's sample service. A worker has a pass of each server, and one more to make envelopes.
 use crate::keys::{bound_of, key_of};
-use crate::shard_store::{KeyRequest, ShardStore, ShardWorker};
+use crate::shard_store::{server, shard_at, KeyRequest, ShardStore, ShardWorker};
 use crate::sizes::Sizes;
 use durkenzo::{
-    Envelope, Layout, Reply, Request, ServeFault, ServeRefused, Served, Service, ServicePass, Value,
+    Envelope, Layout, Reply, Request, ServeFault, ServeRefused, Served, ServerId, Service,
+    ServicePass, ShardId, Value,
 };
 use std::thread;
 
@@ -15,7 +16,7 @@ pub struct ServiceTexts {
 pub struct Asker<'a> {
     client: ServicePass,
     servers: [ServicePass; 2],
-    owners: Vec<u16>,
+    owners: Vec<ServerId>,
     text: &'a [u8],
 }
 
@@ -23,8 +24,9 @@ impl ServiceTexts {
     pub fn new(sizes: &Sizes) -> ServiceTexts {
         let layout = Layout::new((0..sizes.shards).map(bound_of)).expect("rising bounds");
         let service = Service::builder(layout).servers(2).build().expect("memory");
-        for shard in 0..sizes.shards as u16 {
-            service.control().assign(shard, 1).expect("a vacant shard");
+        for shard in ShardId::all(sizes.shards) {
+            let first = service.control().assign(shard, server(1));
+            first.expect("a vacant shard");
         }
         ServiceTexts {
             service,
@@ -37,11 +39,11 @@ impl ShardStore for ServiceTexts {
     type Worker<'a> = Asker<'a>;
 
     fn worker(&self) -> Asker<'_> {
-        let pass = |server| self.service.pass(server).expect("memory");
+        let pass = |number| self.service.pass(server(number)).expect("memory");
         Asker {
             client: pass(1),
             servers: [1, 2].map(pass),
-            owners: vec![1; self.service.layout().count()],
+            owners: vec![server(1); self.service.layout().count()],
             text: &self.text,
         }
     }
@@ -49,7 +51,7 @@ impl ShardStore for ServiceTexts {
     fn migrate(&self, shard: usize, to: u16) {
         self.service
             .control()
-            .migrate(shard as u16, to)
+            .migrate(shard_at(shard), server(to))
             .expect("a server that is up");
     }
 }
@@ -67,12 +69,12 @@ impl Asker<'_> {
 impl ShardWorker for Asker<'_> {
     fn request(&mut self, asked: KeyRequest) -> u64 {
         let key = key_of(asked.shard, asked.key);
-        let (mut envelope, mut server) = (
+        let (mut envelope, mut at) = (
             self.envelope(&key, asked.is_write),
             self.owners[asked.shard],
         );
         loop {
-            let pass = &mut self.servers[usize::from(server) - 1];
+            let pass = &mut self.servers[at.index()];
             match pass.serve(envelope) {
                 Ok(Served::Answered(answer)) => {
                     return match answer.reply() {
@@ -81,7 +83,7 @@ impl ShardWorker for Asker<'_> {
                         other => panic!("the reply is {other:?}"),
                     }
                 }
-                Ok(Served::Forward(to, back)) => (envelope, server) = (back, to),
+                Ok(Served::Forward(to, back)) => (envelope, at) = (back, to),
                 Err(refused) if is_passing(&refused) => {
                     thread::yield_now();
                     envelope = refused.envelope;
@@ -89,9 +91,9 @@ impl ShardWorker for Asker<'_> {
                 // If an envelope was forwarded to a server that doesn't own the shard any more, the request is sent
                 // anew.
                 Err(_) => {
-                    let read = pass.look(asked.shard as u16).expect("a shard");
-                    server = read.owner().expect("an owner");
-                    self.owners[asked.shard] = server;
+                    let read = pass.look(shard_at(asked.shard)).expect("a shard");
+                    at = server(read.owner().expect("an owner"));
+                    self.owners[asked.shard] = at;
                     envelope = self.envelope(&key, asked.is_write);
                 }
             }

@@ -1,4 +1,5 @@
 //! The work of each way. It keeps a body for each shard, which threads share, and moves shards between two servers.
+use durkenzo::{ServerId, ShardId};
 
 /// A way to keep the bodies.
 pub trait ShardStore: Sync {
@@ -24,4 +25,17 @@ pub struct KeyRequest {
     pub shard: usize,
     pub key: u32,
     pub is_write: bool,
+}
+
+/// Returns the shard in this place.
+pub fn shard_at(place: usize) -> ShardId {
+    u16::try_from(place)
+        .ok()
+        .and_then(|it| ShardId::new(it).ok())
+        .expect("a board has few shards")
+}
+
+/// Returns the server of this number.
+pub fn server(number: u16) -> ServerId {
+    ServerId::new(number).expect("a server's number")
 }

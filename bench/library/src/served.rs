@@ -1,7 +1,9 @@
 //! The library's board of the sample service, whose server 1 owns all shards, with 16 keys of 16 bytes each and texts
 //! of 32: the requests of bench/serve, which come in the same order.
 use crate::count_store::SHARDS;
-use durkenzo::{Layout, Mode, Reply, Request, Sent, Served, Service, ServicePass, Value};
+use durkenzo::{
+    Layout, Mode, Reply, Request, Sent, Served, ServerId, Service, ServicePass, ShardId, Value,
+};
 
 const KEYS: u8 = 16;
 const FIRST_STATE: u64 = 88_172_645_463_325_252;
@@ -27,15 +29,16 @@ impl ServiceWorker {
         };
         let layout = Layout::new((0..SHARDS as u16).map(bound)).expect("rising bounds");
         let service = Service::builder(layout).build().expect("memory");
-        let pass = || service.pass(1).expect("memory");
+        let owner = ServerId::new(1).expect("a server");
+        let pass = || service.pass(owner).expect("memory");
         let mut site = ServiceWorker {
             client: pass(),
             server: pass(),
         };
-        for shard in 0..SHARDS as u16 {
-            service.control().assign(shard, 1).expect("a vacant shard");
+        for shard in ShardId::all(SHARDS) {
+            service.control().assign(shard, owner).expect("a vacant shard");
             for key in 0..KEYS {
-                site.put(Asks::ByKey, shard, key, key);
+                site.put(Asks::ByKey, shard.get(), key, key);
             }
         }
         site
@@ -66,7 +69,7 @@ impl ServiceWorker {
     fn asked(&mut self, asks: Asks, shard: u16, request: &Request<'_>) -> u64 {
         let sent = || Sent {
             number: 0,
-            shard,
+            shard: ShardId::new(shard).expect("a shard"),
             mode: Mode::Direct,
             hops: 0,
         };

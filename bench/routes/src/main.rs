@@ -113,9 +113,10 @@ fn look_up_all(bounds: &[Vec<u8>], from: usize) -> (u64, u64) {
 fn read_by_the_library() -> (u64, u64) {
     let board = durkenzo::Board::builder().servers(1).build(vec![(); usize::from(SHARDS)]).expect("a board");
     let routes = durkenzo::Routes::new(board.count()).expect("a map");
-    let mut pass = board.pass(1).expect("a pass");
-    for shard in 0..SHARDS {
-        board.control().assign(shard, 1).expect("a vacant shard");
+    let server = durkenzo::ServerId::new(1).expect("a server");
+    let mut pass = board.pass(server).expect("a pass");
+    for shard in board.shards() {
+        board.control().assign(shard, server).expect("a vacant shard");
         routes.publish(&mut pass, shard).expect("a new route");
     }
     let mut router = routes.router().expect("a router");
@@ -123,7 +124,8 @@ fn read_by_the_library() -> (u64, u64) {
     let start = Instant::now();
     for _ in 0..READS {
         choice = next(choice);
-        sum += router.route((choice >> 40) as u16 & (SHARDS - 1)).map_or(0, |it| it.generation);
+        let shard = durkenzo::ShardId::new((choice >> 40) as u16 & (SHARDS - 1)).expect("a shard");
+        sum += router.route(shard).map_or(0, |it| it.generation);
     }
     (start.elapsed().as_nanos() as u64, sum)
 }

@@ -162,7 +162,7 @@ impl Drain {
         if !control.backend.lasts() {
             let plan = control.backend.plan(self.server)?;
             if let Some(shard) = plan.left.first() {
-                return Err(Refusal::no_room(*shard));
+                return Err(Refusal::no_room(shard.get()));
             }
         }
         Ok(self.left(control)?.len())

@@ -3,7 +3,7 @@ use super::backend::{Backend, BackendFault};
 use super::controller::Controller;
 use super::progress::Doing;
 use super::{Asked, ControlAnswer, ControlHost, Refusal, ReplyTo, Words};
-use durkenzo::{ChangeFault, Move, Plan, Record, RestartFault, Stand};
+use durkenzo::{ChangeFault, Move, Plan, Record, RestartFault, ServerId, ShardId, Stand};
 use durkenzo_driver::{
     Clock, ControlCommand, Intent, Next, Refused, ServerState, ShardLoad, Subject,
 };
@@ -111,7 +111,8 @@ impl Plain {
             0 => Stand::Vacant,
             server => Stand::Serving(server),
         };
-        let (shards, server) = ((0..).zip(&self.stands), other(server));
+        let shards = ShardId::all(self.stands.len()).zip(&self.stands);
+        let server = ServerId::new(other(server)).expect("a server");
         let own = shards.filter(|it| *it.1 == wanted).map(|it| it.0);
         Plan {
             moves: own.map(|shard| Move { shard, server }).collect(),
@@ -199,13 +200,16 @@ impl Backend for PlainBackend {
 
     fn next_of_drain(&mut self, server: u16) -> Result<Next, BackendFault> {
         let plan = self.plan(server)?;
-        Ok(match plan.moves.first() {
+        let first = plan.moves.first();
+        Ok(match first.map(|it| (it.shard.get(), it.server.get())) {
             None => Next::Nothing,
-            Some(it) if self.plain().is_full => Next::Command(ControlCommand::Pause(it.shard)),
+            Some((shard, _)) if self.plain().is_full => Next::Command(ControlCommand::Pause(shard)),
             // As the proved control: if it would refuse, it waits.
-            Some(it) if self.plain().lasts && self.plain().spent.contains(&it.shard) => Next::Waits,
-            Some(it) if server == 0 => Next::Command(ControlCommand::Assign(it.shard, it.server)),
-            Some(it) => Next::Command(ControlCommand::PrepareAddShard(it.shard, it.server)),
+            Some((shard, _)) if self.plain().lasts && self.plain().spent.contains(&shard) => {
+                Next::Waits
+            }
+            Some((shard, to)) if server == 0 => Next::Command(ControlCommand::Assign(shard, to)),
+            Some((shard, to)) => Next::Command(ControlCommand::PrepareAddShard(shard, to)),
         })
     }
 

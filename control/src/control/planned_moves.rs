@@ -80,6 +80,7 @@ impl PlannedMoves {
     /// moved a shard.
     fn next_left(&mut self, control: &mut Controller) -> Result<Option<ControlCommand>, Refusal> {
         while let Some(Move { shard, server }) = self.left.pop_front() {
+            let (shard, server) = (shard.get(), server.get());
             if self.aside.contains_key(&shard) {
                 continue;
             }

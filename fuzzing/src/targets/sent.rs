@@ -1,5 +1,5 @@
 use crate::target::{holds, Target};
-use durkenzo::{word, Layout, Request, Sent, Service, ServicePass};
+use durkenzo::{word, Layout, Request, Sent, ServerId, Service, ServicePass, ShardId};
 
 /// An envelope's plain fields and a request's key, as a process sends them to another, and the word of a record.
 pub struct SentBytes {
@@ -38,10 +38,11 @@ impl SentBytes {
     pub fn new() -> SentBytes {
         let pass = Layout::new(["", "g", "n"]).ok().and_then(|layout| {
             let service = Service::builder(layout).servers(2).build().ok()?;
-            for shard in 0..3 {
-                service.control().assign(shard, 1).ok()?;
+            let server = ServerId::new(1).ok()?;
+            for shard in ShardId::all(3) {
+                service.control().assign(shard, server).ok()?;
             }
-            service.pass(1).ok()
+            service.pass(server).ok()
         });
         SentBytes { pass }
     }

@@ -74,7 +74,7 @@ fn accepted(input: &[u8], mut director: Director) -> Result<(), String> {
     for key in KEYS {
         let shard = director.shard_of(key).map_err(|it| it.to_string())?;
         let found = layout.shard_of(key);
-        holds(shard == found, || {
+        holds(shard == found.get(), || {
             format!("{key:?} is of {shard} and {found}")
         })?;
     }

@@ -492,10 +492,15 @@ mod tests {
     use crate::resp::MAX_REPLY;
     use crate::settings::MAX_CEILING;
     use crate::stats::Stats;
+    use durkenzo::{ServerId, ShardId};
 
     /// Returns a cluster of two servers, the first of which owns both shards, and a thread's executor there.
     fn begun() -> (Arc<Cluster>, Executor) {
         begun_below(MAX_CEILING)
+    }
+
+    fn shard_id(number: u16) -> ShardId {
+        ShardId::new(number).unwrap()
     }
 
     /// Does the same, with generations below this one.
@@ -508,8 +513,9 @@ mod tests {
             ..Configuration::new(rule)
         };
         let cluster = Arc::new(Cluster::in_memory(configuration).unwrap());
-        for shard in 0..2 {
-            cluster.board().control().assign(shard, 1).unwrap();
+        for shard in cluster.board().shards() {
+            let control = cluster.board().control();
+            control.assign(shard, ServerId::FIRST).unwrap();
         }
         let admission = Admission::new(cluster.clone(), Arc::new(Stats::new(2))).unwrap();
         let executor = Executor::new(cluster.clone(), admission, keyspace);
@@ -754,7 +760,7 @@ mod tests {
         );
         let mut session = Session::new(1, true);
         answers(&mut executor, "MSET a 1 z 2\n");
-        cluster.board().control().pause(1).unwrap();
+        cluster.board().control().pause(shard_id(1)).unwrap();
         let (text, stop) = told(&mut executor, &mut session, "DEL a z\n");
         assert!(text.is_empty() && matches!(stop, Stop::Wait(_)), "{text}");
         let (text, _) = told(
@@ -763,9 +769,9 @@ mod tests {
             "EXISTS a\nSET a 2\n",
         );
         assert_eq!(text, ":0 +OK");
-        cluster.board().control().resume(1).unwrap();
+        cluster.board().control().resume(shard_id(1)).unwrap();
         assert_eq!(told(&mut executor, &mut session, "DEL a z\n").0, ":2");
-        cluster.board().control().pause(1).unwrap();
+        cluster.board().control().pause(shard_id(1)).unwrap();
         for (line, answer) in [
             ("MSET z 1 a 1\n", "-SHARDPAUSED"),
             ("MSET a 3 z 1\n", "-UNKNOWN some of these keys"),
@@ -778,7 +784,7 @@ mod tests {
             executor.refuse(&mut session, line.as_bytes(), Wait::Paused(1), &mut replies);
             assert!(replies.unsent().starts_with(answer.as_bytes()), "{line}");
         }
-        cluster.board().control().resume(1).unwrap();
+        cluster.board().control().resume(shard_id(1)).unwrap();
         answers(&mut executor, "SET a 2\n");
         assert_eq!(answers(&mut executor, "MGET a z\n"), "*2 $1 2 $-1");
     }
@@ -792,11 +798,11 @@ mod tests {
             ("DEL none z\n", "-NOAUTH"),
         ] {
             answers(&mut executor, "MSET a 1 z 2\n");
-            cluster.board().control().pause(1).unwrap();
+            cluster.board().control().pause(shard_id(1)).unwrap();
             let mut session = Session::new(1, true);
             let (text, stop) = told(&mut executor, &mut session, lines);
             assert!(text.is_empty() && matches!(stop, Stop::Wait(_)), "{text}");
-            cluster.board().control().resume(1).unwrap();
+            cluster.board().control().resume(shard_id(1)).unwrap();
             session.is_known = false;
             let (text, _) = told(&mut executor, &mut session, lines);
             assert!(text.starts_with(why), "{text}");
@@ -827,17 +833,17 @@ mod tests {
         }
         // It goes on at the key where it waited. A shard before that keeps the value that was written meanwhile.
         answers(&mut executor, "MSET a 1 z 2\n");
-        cluster.board().control().pause(1).unwrap();
+        cluster.board().control().pause(shard_id(1)).unwrap();
         let mut session = Session::new(1, true);
         let (text, stop) = told(&mut executor, &mut session, "FLUSHDB\n");
         assert!(text.is_empty() && matches!(stop, Stop::Wait(_)), "{text}");
         assert_eq!(answers(&mut executor, "GET a\nSET b 1\n"), "$-1 +OK");
-        cluster.board().control().resume(1).unwrap();
+        cluster.board().control().resume(shard_id(1)).unwrap();
         let (text, _) = told(&mut executor, &mut session, "FLUSHDB\n");
         assert_eq!(text, "+OK");
         assert_eq!(answers(&mut executor, "KEYS *\n"), "*1 $1 b");
         for (shard, answer) in [(1, "-UNKNOWN some keys are deleted"), (0, "-SHARDPAUSED")] {
-            cluster.board().control().pause(shard).unwrap();
+            cluster.board().control().pause(shard_id(shard)).unwrap();
             told(&mut executor, &mut session, "FLUSHDB\n");
             let mut replies = Replies::default();
             executor.refuse(
@@ -847,7 +853,7 @@ mod tests {
                 &mut replies,
             );
             assert!(replies.unsent().starts_with(answer.as_bytes()), "{shard}");
-            cluster.board().control().resume(shard).unwrap();
+            cluster.board().control().resume(shard_id(shard)).unwrap();
         }
     }
 
@@ -856,14 +862,16 @@ mod tests {
         let (cluster, mut executor) = begun();
         let control = cluster.board().control();
         assert_eq!(answers(&mut executor, "INCR a\n"), ":1");
-        control.prepare_add_shard(0, 2).unwrap();
+        control
+            .prepare_add_shard(shard_id(0), ServerId::new(2).unwrap())
+            .unwrap();
         assert_eq!(answers(&mut executor, "INCR a\n"), ":2");
-        control.prepare_drop_shard(0).unwrap();
+        control.prepare_drop_shard(shard_id(0)).unwrap();
         assert_eq!(answers(&mut executor, "INCR a\nINCR a\n"), ":3 :4");
         assert_eq!(executor.admission.stats().forwarded.get(), 1);
-        control.add_shard(0).unwrap();
+        control.add_shard(shard_id(0)).unwrap();
         assert_eq!(answers(&mut executor, "INCR a\n"), ":5");
-        control.drop_shard(0).unwrap();
+        control.drop_shard(shard_id(0)).unwrap();
         assert_eq!(answers(&mut executor, "INCR a\nINCR z\n"), ":6 :1");
         let refused = answers(&mut executor, "SM AT 1 INCR a\nSM AT 2 INCR a\n");
         assert!(
@@ -877,7 +885,7 @@ mod tests {
         let (cluster, mut executor) = begun();
         let mut session = Session::new(1, true);
         let control = cluster.board().control();
-        control.pause(0).unwrap();
+        control.pause(shard_id(0)).unwrap();
         let (text, stop) = told(&mut executor, &mut session, "INCR z\nINCR a\nINCR z\n");
         assert!(
             text == ":1" && matches!(stop, Stop::Wait(Wait::Paused(0))),
@@ -888,9 +896,9 @@ mod tests {
             text == "+OK +QUEUED" && matches!(stop, Stop::Wait(_)),
             "{text}"
         );
-        control.resume(0).unwrap();
+        control.resume(shard_id(0)).unwrap();
         assert_eq!(told(&mut executor, &mut session, "EXEC\n").0, "*1 :1");
-        control.pause(0).unwrap();
+        control.pause(shard_id(0)).unwrap();
         let mut replies = Replies::default();
         let wait = Wait::Paused(0);
         let done = executor.refuse(&mut session, b"INCR a\nPING\n", wait, &mut replies);

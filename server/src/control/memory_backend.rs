@@ -9,16 +9,17 @@ use crate::observer::Observer;
 use crate::run::BoxError;
 use crate::settings;
 use crate::storage::InMemory;
-use durkenzo::{ChangeFault, Control, Plan, Record, RestartFault, Stand};
+use durkenzo::{
+    ChangeFault, Control, Plan, PlanFault, Record, RestartFault, ServerId, ShardId, Stand,
+};
 use durkenzo_control::control::{Backend, BackendFault, FileWork, StateWait};
-use durkenzo_driver::{CommandFault, ControlCommand, Next, Planner, Refused, ServerState};
+use durkenzo_driver::{CommandFault, ControlCommand, Given, Next, Planner, Refused, ServerState};
 use std::fmt;
 use std::sync::Arc;
-use std::thread;
-use std::time::{Duration, Instant};
+use std::time::Duration;
 
-/// How long a change is tried again, while another thread has the shard, before other work has its turn.
-const SPIN: Duration = Duration::from_micros(500);
+/// How long a change waits, while another thread has the shard, before other work has its turn.
+const PATIENCE: Duration = Duration::from_micros(500);
 
 /// The control's backend for data in memory. The proved planner chooses the next command and judges commands, and the
 /// proved board makes them. The board has the last word, because only it knows which thread has a shard.
@@ -110,37 +111,19 @@ impl MemoryBackend {
         Ok(())
     }
 
-    /// Makes the change at the board. If another thread has the shard, tries again for a short while.
+    /// Makes the change at the board. If another thread has the shard, waits for a short while.
     fn change(&self, command: ControlCommand) -> Result<(), BackendFault> {
-        let end = Instant::now() + SPIN;
-        loop {
-            match self.once(command) {
-                Err(fault) if fault.is_passing() && Instant::now() < end => thread::yield_now(),
-                made => return made,
+        match command.given() {
+            Given::Shard(shard, change) => {
+                let shard = ShardId::new(shard).map_err(|_| ChangeFault::UnknownShard)?;
+                self.board.change_for(shard, change, PATIENCE)?;
+            }
+            Given::Server(server, step) => {
+                let server = ServerId::new(server).map_err(|_| RestartFault::UnknownServer)?;
+                self.board.restart(server, step)?;
             }
         }
-    }
-
-    fn once(&self, command: ControlCommand) -> Result<(), BackendFault> {
-        let board = &self.board;
-        match command {
-            ControlCommand::Assign(shard, server) => changed(board.assign(shard, server)),
-            ControlCommand::PrepareAddShard(shard, to) => {
-                changed(board.prepare_add_shard(shard, to))
-            }
-            ControlCommand::PrepareDropShard(shard) => changed(board.prepare_drop_shard(shard)),
-            ControlCommand::AddShard(shard) => changed(board.add_shard(shard)),
-            ControlCommand::DropShard(shard) => changed(board.drop_shard(shard)),
-            ControlCommand::Cancel(shard) => changed(board.cancel(shard)),
-            ControlCommand::Pause(shard) => changed(board.pause(shard)),
-            ControlCommand::Resume(shard) => changed(board.resume(shard)),
-            ControlCommand::Reassign(shard, server) => changed(board.reassign(shard, server)),
-            ControlCommand::Ask(server) => stepped(board.ask(server)),
-            ControlCommand::Approve(server) => stepped(board.approve(server)),
-            ControlCommand::Stopped(server) => stepped(board.stopped(server)),
-            ControlCommand::Back(server) => stepped(board.back(server)),
-            ControlCommand::Fail(server) => stepped(board.fail(server)),
-        }
+        Ok(())
     }
 
     /// Notes the change that the board made.
@@ -221,7 +204,9 @@ impl Backend for MemoryBackend {
     fn plan(&mut self, server: u16) -> Result<Plan, BackendFault> {
         let plan = match server {
             0 => self.board.plan_assign(),
-            server => self.board.plan_drain(server),
+            server => ServerId::new(server)
+                .map_err(|_| PlanFault::UnknownServer)
+                .and_then(|server| self.board.plan_drain(server)),
         };
         Ok(plan?)
     }
@@ -273,14 +258,6 @@ impl Backend for MemoryBackend {
     }
 }
 
-fn changed(made: Result<(), ChangeFault>) -> Result<(), BackendFault> {
-    Ok(made?)
-}
-
-fn stepped(made: Result<(), RestartFault>) -> Result<(), BackendFault> {
-    Ok(made?)
-}
-
 /// Returns the name of a file, which must be made of letters.
 fn file_named(name: &[u8]) -> Result<&str, DumpFault> {
     std::str::from_utf8(name).map_err(|_| DumpFault::BadName)
@@ -320,8 +297,8 @@ mod tests {
     fn a_change_waits_for_who_has_the_shard() {
         let (cluster, mut backend) = backend(2, 2, 1_000);
         backend.command(ControlCommand::Assign(0, 1)).unwrap();
-        let mut pass = cluster.board().pass(1).unwrap();
-        let permit = pass.admit(0, Mode::Direct).unwrap();
+        let mut pass = cluster.board().pass(ServerId::FIRST).unwrap();
+        let permit = pass.admit(ShardId::FIRST, Mode::Direct).unwrap();
         let prepare = ControlCommand::PrepareAddShard(0, 2);
         for _ in 0..2 {
             assert!(backend.command(prepare).is_err_and(|it| it.is_passing()));

@@ -125,6 +125,7 @@ mod tests {
     use crate::admission::Admission;
     use crate::configuration::Configuration;
     use crate::keyspace::{Keyspace, Rule};
+    use durkenzo::{ServerId, ShardId};
     use mio::net::TcpStream;
     use std::io::{Read, Write};
     use std::net::{TcpListener, TcpStream as Client};
@@ -156,8 +157,9 @@ mod tests {
             ..Configuration::new(rule)
         };
         let cluster = Arc::new(Cluster::in_memory(configuration).unwrap());
-        for shard in 0..2 {
-            cluster.board().control().assign(shard, 1).unwrap();
+        for shard in cluster.board().shards() {
+            let control = cluster.board().control();
+            control.assign(shard, ServerId::FIRST).unwrap();
         }
         let poll = Poll::new().unwrap();
         let inlet = Arc::new(Inlet::new(&poll, 1).unwrap());
@@ -191,7 +193,11 @@ mod tests {
 
     /// Makes a client that hasn't read its answers yet, and whose command waits for a paused shard.
     fn slow(cluster: &Cluster, inlet: &Inlet) -> Client {
-        cluster.board().control().pause(1).unwrap();
+        cluster
+            .board()
+            .control()
+            .pause(ShardId::new(1).unwrap())
+            .unwrap();
         let mut client = clients(inlet, 1).remove(0);
         let (text, keys) = ("v".repeat(TEXT), " a".repeat(TEXTS));
         let set = format!("*3\r\n$3\r\nSET\r\n$1\r\na\r\n${TEXT}\r\n{text}\r\n");

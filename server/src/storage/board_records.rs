@@ -1,6 +1,6 @@
 use super::InMemory;
 use crate::body::BoxedBody;
-use durkenzo::{Pass, PassFault, Record, UnknownShard};
+use durkenzo::{Pass, PassFault, Record, ServerId, ShardId, UnknownShard};
 use std::sync::Arc;
 
 /// Reads the records of the board in memory.
@@ -20,7 +20,7 @@ impl BoardRecords {
     /// `NoMemory`.
     pub(crate) fn new(memory: Arc<InMemory>) -> Result<BoardRecords, PassFault> {
         let version = memory.version();
-        let pass = memory.board().pass(1)?;
+        let pass = memory.board().pass(ServerId::FIRST)?;
         Ok(BoardRecords {
             memory,
             pass,
@@ -46,7 +46,8 @@ impl BoardRecords {
     /// If there is no such shard.
     pub(crate) fn record(&mut self, shard: u16) -> Result<Record, UnknownShard> {
         self.renew();
-        let mut record = self.pass.look(shard)?;
+        let at = ShardId::new(shard).map_err(|_| UnknownShard)?;
+        let mut record = self.pass.look(at)?;
         record.generation += self.memory.base(shard);
         Ok(record)
     }

@@ -130,6 +130,7 @@ mod tests {
     use crate::domains::Domains;
     use crate::keyspace::Rule;
     use durkenzo::RestartFault;
+    use durkenzo::ServerId;
 
     #[test]
     fn of_each_domain_the_library_lets_one_server_be_away() {
@@ -141,11 +142,12 @@ mod tests {
         };
         let memory = InMemory::new(&configuration).unwrap();
         let control = memory.board().control();
-        (1..=4).for_each(|server| control.ask(server).unwrap());
-        control.approve(1).unwrap();
-        assert_eq!(control.approve(3), Err(RestartFault::DomainCap));
-        control.approve(2).unwrap();
-        control.back(1).unwrap();
-        control.approve(3).unwrap();
+        ServerId::all(4).for_each(|server| control.ask(server).unwrap());
+        let [one, two, three] = [1, 2, 3].map(|it| ServerId::new(it).unwrap());
+        control.approve(one).unwrap();
+        assert_eq!(control.approve(three), Err(RestartFault::DomainCap));
+        control.approve(two).unwrap();
+        control.back(one).unwrap();
+        control.approve(three).unwrap();
     }
 }

@@ -1,4 +1,4 @@
-use durkenzo::{AdmitFault, Board, Control, Mode};
+use durkenzo::{AdmitFault, Board, Control, Mode, ServerId, ShardId};
 use std::error::Error;
 use std::sync::atomic::{AtomicBool, Ordering};
 
@@ -10,12 +10,12 @@ struct Account {
 /// Serves all accounts as this server until it is told to stop. Returns how much it did.
 fn serve(
     board: &Board<Account>,
-    server: u16,
+    server: ServerId,
     stop: &AtomicBool,
 ) -> Result<u64, Box<dyn Error + Send + Sync>> {
     let mut pass = board.pass(server)?;
     let mut done = 0;
-    for shard in (0..8).cycle() {
+    for shard in board.shards().cycle() {
         match pass.admit(shard, Mode::Direct) {
             Ok(mut account) => {
                 account.balance += 1;
@@ -34,8 +34,9 @@ fn serve(
 }
 
 fn migrate(control: &Control<Account>, rounds: u16) -> Result<(), Box<dyn Error + Send + Sync>> {
+    let shard = ShardId::new(0)?;
     for round in 1..=rounds {
-        control.migrate(0, round % 4 + 1)?;
+        control.migrate(shard, ServerId::new(round % 4 + 1)?)?;
     }
     Ok(())
 }
@@ -45,13 +46,13 @@ fn main() -> Result<(), Box<dyn Error + Send + Sync>> {
         .servers(4)
         .build((0..8).map(|_| Account::default()))?;
     let control = board.control();
-    for shard in 0..8 {
-        control.assign(shard, shard % 4 + 1)?;
+    for (shard, server) in board.shards().zip(ServerId::all(4).cycle()) {
+        control.assign(shard, server)?;
     }
     let stop = AtomicBool::new(false);
     let done = std::thread::scope(|scope| {
         let (board, stop) = (&board, &stop);
-        let servers: Vec<_> = (1..=4)
+        let servers: Vec<_> = ServerId::all(4)
             .map(|it| scope.spawn(move || serve(board, it, stop)))
             .collect();
         let moved = migrate(&control, 2_000);

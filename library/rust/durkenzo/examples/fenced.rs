@@ -4,7 +4,7 @@
 //! Prints the totals of all accounts at the end. AFTER shows what happens if tokens begin too low: the store refuses
 //! the first write, which is an error. The store here is a file. In a database, `claim` and `add` would be one
 //! transaction each.
-use durkenzo::{Board, Mode, Permit, MAX_GENERATION};
+use durkenzo::{Board, Mode, Permit, ServerId, ShardId, MAX_GENERATION};
 use std::error::Error;
 use std::fs;
 use std::io::ErrorKind;
@@ -67,10 +67,10 @@ impl AccountFile {
 
     /// Adds 1, as `UPDATE .. SET balance = balance + 1, token = ?1 WHERE shard = ?2 AND token <= ?1` does. If the write
     /// changes no row, it is an error.
-    fn add(&mut self, shard: u16, token: u64) -> Result<(), BoxError> {
+    fn add(&mut self, shard: ShardId, token: u64) -> Result<(), BoxError> {
         // Another process may have written in the meantime.
         *self = AccountFile::open(self.file.clone())?;
-        let account = &mut self.accounts[usize::from(shard)];
+        let account = &mut self.accounts[shard.index()];
         if token < account.token {
             return Err(format!("account {shard} has a later token than {token}").into());
         }
@@ -94,12 +94,13 @@ fn main() -> Result<(), BoxError> {
         .servers(1)
         .after(after)
         .build([(); ACCOUNTS as usize])?;
-    for shard in 0..ACCOUNTS {
-        board.control().assign(shard, 1)?;
+    let server = ServerId::new(1)?;
+    for shard in board.shards() {
+        board.control().assign(shard, server)?;
     }
-    let mut pass = board.pass(1)?;
-    for turn in 0..writes.parse::<u32>()? {
-        let mut permit = pass.admit((turn % u32::from(ACCOUNTS)) as u16, Mode::Direct)?;
+    let mut pass = board.pass(server)?;
+    for shard in board.shards().cycle().take(writes.parse()?) {
+        let mut permit = pass.admit(shard, Mode::Direct)?;
         store.add(Permit::shard(&permit), Permit::token(&mut permit))?;
     }
     let sum: u64 = store.accounts.iter().map(|it| it.balance).sum();

@@ -8,7 +8,7 @@
 //! shards, and all servers may be down. `load` isn't answered.
 use durkenzo::{
     Board, Control, Layout, Map, MapFault, Mode, Pass, Permit, Plan, Record, Reply, Request,
-    RestartFault, Router, Routes, Stand, Value,
+    RestartFault, Router, Routes, ServerId, ShardId, Stand, Value,
 };
 use std::collections::HashMap;
 use std::error::Error;
@@ -100,7 +100,7 @@ struct ScriptSession {
     routes: Routes,
     router: Router,
     /// Passes that hold a shard until they are dropped.
-    held: HashMap<u16, Pass<Body>>,
+    held: HashMap<ShardId, Pass<Body>>,
     layout: Layout,
     control: Control<Body>,
     /// One pass for each server, from server 1.
@@ -116,63 +116,65 @@ impl ScriptSession {
         let (word, rest) = split(line);
         let (first, after) = split(rest);
         let number = |word: &[u8]| std::str::from_utf8(word).ok()?.parse::<u16>().ok();
+        let shard = |word: &[u8]| ShardId::new(number(word)?).ok();
+        let server = |word: &[u8]| ServerId::new(number(word)?).ok();
         Some(match std::str::from_utf8(word).ok()? {
-            "at" => self.request(Some(number(first)?), after),
+            "at" => self.request(Some(server(first)?), after),
             "client" => self.by_route(rest),
             "get" | "put" | "append" | "inc" | "del" | "scan" => self.request(None, line),
-            "look" => self.look(number(first)?),
-            "hold" => self.hold(number(first)?, number(after)?),
-            "free" => self.free(number(first)?),
-            "checkpoint" => self.admit(number(first)?, number(after)?),
-            "publish" => match self.routes.publish(&mut self.passes[0], number(first)?) {
+            "look" => self.look(shard(first)?),
+            "hold" => self.hold(shard(first)?, server(after)?),
+            "free" => self.free(shard(first)?),
+            "checkpoint" => self.admit(shard(first)?, server(after)?),
+            "publish" => match self.routes.publish(&mut self.passes[0], shard(first)?) {
                 Ok(_) => Ok(b"ok".to_vec()),
                 Err(fault) => Err(named(&fault)),
             },
             "route" => Ok(self.route(first)),
             "place" => Ok(shown(&self.control.plan_assign().ok()?)),
-            "drain" => match self.control.plan_drain(number(first)?) {
+            "drain" => match self.control.plan_drain(server(first)?) {
                 Ok(plan) => Ok(shown(&plan)),
                 Err(fault) => Err(named(&fault)),
             },
             word @ ("ask" | "approve" | "stopped" | "back" | "fail") => {
-                self.step(word, number(first)?)
+                self.step(word, server(first)?)
             }
-            word => self.change(word, number(first)?, number(after).unwrap_or(0))?,
+            word => self.change(word, shard(first)?, server(after))?,
         })
     }
 
     /// A forgotten permit keeps its shard until its pass is dropped.
-    fn hold(&mut self, shard: u16, server: u16) -> ScriptAnswer {
+    fn hold(&mut self, shard: ShardId, server: ServerId) -> ScriptAnswer {
         let mut pass = self.pass(shard, server)?;
         std::mem::forget(pass.admit(shard, Mode::Direct).map_err(|it| named(&it))?);
         self.held.insert(shard, pass);
         Ok(b"ok".to_vec())
     }
 
-    fn free(&mut self, shard: u16) -> ScriptAnswer {
+    fn free(&mut self, shard: ShardId) -> ScriptAnswer {
         self.known(shard)?;
         self.held.remove(&shard).ok_or("NotHeld")?;
         Ok(b"ok".to_vec())
     }
 
     /// Another program's body keeps no requests, so a checkpoint is only an admission that changes nothing.
-    fn admit(&mut self, shard: u16, server: u16) -> ScriptAnswer {
+    fn admit(&mut self, shard: ShardId, server: ServerId) -> ScriptAnswer {
         let mut pass = self.pass(shard, server)?;
         let permit = pass.admit(shard, Mode::Direct).map_err(|it| named(&it))?;
         Permit::finish(permit);
         Ok(b"ok".to_vec())
     }
 
-    fn known(&self, shard: u16) -> Result<(), String> {
-        match usize::from(shard) < self.board.count() {
+    fn known(&self, shard: ShardId) -> Result<(), String> {
+        match shard.index() < self.board.count() {
             true => Ok(()),
             false => Err("UnknownShard".into()),
         }
     }
 
-    fn pass(&self, shard: u16, server: u16) -> Result<Pass<Body>, String> {
+    fn pass(&self, shard: ShardId, server: ServerId) -> Result<Pass<Body>, String> {
         self.known(shard)?;
-        match usize::from(server) <= self.passes.len() {
+        match server.index() < self.passes.len() {
             true => Ok(self.board.pass(server).unwrap()),
             false => Err("UnknownServer".into()),
         }
@@ -192,18 +194,18 @@ impl ScriptSession {
         self.request(Some(route.ok_or("NoRoute")?.server), request)
     }
 
-    fn change(&self, word: &str, shard: u16, server: u16) -> Option<ScriptAnswer> {
+    fn change(&self, word: &str, shard: ShardId, server: Option<ServerId>) -> Option<ScriptAnswer> {
         let control = &self.control;
         let made = match word {
-            "assign" => control.assign(shard, server),
-            "prepare_add" => control.prepare_add_shard(shard, server),
+            "assign" => control.assign(shard, server?),
+            "prepare_add" => control.prepare_add_shard(shard, server?),
             "prepare_drop" => control.prepare_drop_shard(shard),
             "add" => control.add_shard(shard),
             "drop" => control.drop_shard(shard),
             "cancel" => control.cancel(shard),
             "pause" => control.pause(shard),
             "resume" => control.resume(shard),
-            "reassign" => control.reassign(shard, server),
+            "reassign" => control.reassign(shard, server?),
             _ => return None,
         };
         Some(match made {
@@ -212,7 +214,7 @@ impl ScriptSession {
         })
     }
 
-    fn step(&mut self, word: &str, server: u16) -> ScriptAnswer {
+    fn step(&mut self, word: &str, server: ServerId) -> ScriptAnswer {
         let made = match word {
             "ask" => self.control.ask(server),
             "approve" => self.control.approve(server),
@@ -223,7 +225,7 @@ impl ScriptSession {
         match made {
             Ok(()) => {
                 if let "stopped" | "fail" | "back" = word {
-                    self.reached[usize::from(server) - 1] = word == "back";
+                    self.reached[server.index()] = word == "back";
                 }
                 Ok(b"ok".to_vec())
             }
@@ -233,22 +235,22 @@ impl ScriptSession {
 
     /// Returns the name of the fault, and the shard that the server still serves. The library finds that shard only by
     /// the records.
-    fn refused(&mut self, fault: RestartFault, server: u16) -> String {
+    fn refused(&mut self, fault: RestartFault, server: ServerId) -> String {
         let name = format!("{fault:?}");
         if fault != RestartFault::StillServing {
             return name;
         }
         let serves = |it: Record| {
             !matches!(it.stand, Stand::Paused(_))
-                && (it.owner() == Some(server) || it.other() == Some(server))
+                && ([it.owner(), it.other()].contains(&Some(server.get())))
         };
-        let count = self.layout.count() as u16;
         let pass = &mut self.passes[0];
-        let shard = (0..count).find(|shard| serves(pass.look(*shard).unwrap()));
+        let mut shards = self.board.shards();
+        let shard = shards.find(|shard| serves(pass.look(*shard).unwrap()));
         format!("{name} {}", shard.unwrap())
     }
 
-    fn look(&mut self, shard: u16) -> ScriptAnswer {
+    fn look(&mut self, shard: ShardId) -> ScriptAnswer {
         let record = self.passes[0]
             .look(shard)
             .map_err(|fault| format!("{fault:?}"))?;
@@ -259,33 +261,34 @@ impl ScriptSession {
     }
 
     /// Sends a request to a server, or to the shard's owner, and on to each server to which it is forwarded.
-    fn request(&mut self, at: Option<u16>, request: &[u8]) -> ScriptAnswer {
+    fn request(&mut self, at: Option<ServerId>, request: &[u8]) -> ScriptAnswer {
         let (word, rest) = split(request);
         let (word, (key, rest)) = (std::str::from_utf8(word).unwrap(), split(rest));
         let shard = self.layout.shard_of(key);
         let record = self.passes[0].look(shard).unwrap();
         let mut server = match at {
-            Some(server) if usize::from(server) > self.passes.len() => {
+            Some(server) if server.index() >= self.passes.len() => {
                 return Err("UnknownServer".into())
             }
             Some(server) => server,
-            None => record.owner().ok_or("Vacant")?,
+            None => ServerId::new(record.owner().ok_or("Vacant")?).unwrap(),
         };
         let mut mode = Mode::Direct;
         for hops in 0.. {
-            let index = usize::from(server) - 1;
+            let index = server.index();
             if !self.reached[index] {
                 return Err("Unreachable".into());
             }
-            let Some(next) = self.passes[index].look(shard).unwrap().forward(server) else {
+            let record = self.passes[index].look(shard).unwrap();
+            let Some(next) = record.forward(server.get()) else {
                 break;
             };
             if hops == MOST_HOPS {
                 return Err("TooManyHops".into());
             }
-            (mode, server) = (Mode::Forwarded(server), next);
+            (mode, server) = (Mode::Forwarded(server), ServerId::new(next).unwrap());
         }
-        let pass = &mut self.passes[usize::from(server) - 1];
+        let pass = &mut self.passes[server.index()];
         let mut body = pass.admit(shard, mode).map_err(|fault| named(&fault))?;
         let reply = body.reply(word, key, rest);
         let place = body.requests;
@@ -332,7 +335,7 @@ fn main() -> Result<(), Box<dyn Error>> {
         held: HashMap::new(),
         layout: Layout::new(bounds)?,
         control: board.control(),
-        passes: (1..=servers)
+        passes: ServerId::all(servers)
             .map(|it| board.pass(it))
             .collect::<Result<_, _>>()?,
         reached: vec![true; servers.into()],

@@ -1,15 +1,15 @@
 //! Moves sums between accounts while shards migrate. Each account is in a shard of its own, and a transfer holds both
 //! shards.
-use durkenzo::{AdmitFault, Board, Control, Mode, Pass};
+use durkenzo::{AdmitFault, Board, Control, Mode, Pass, ServerId, ShardId};
 use std::error::Error;
 use std::thread;
 
 type BoxError = Box<dyn Error + Send + Sync>;
 
 const SERVERS: u16 = 3;
-const ACCOUNTS: u16 = 8;
+const ACCOUNTS: usize = 8;
 const FIRST_BALANCE: u64 = 100;
-const TRANSFERS: u16 = 20_000;
+const TRANSFERS: usize = 20_000;
 
 struct Account {
     balance: u64,
@@ -17,14 +17,14 @@ struct Account {
 
 /// Makes a pass for each server.
 fn passes(board: &Board<Account>) -> Result<Vec<Pass<Account>>, BoxError> {
-    let passes = (1..=SERVERS).map(|it| board.pass(it));
+    let passes = ServerId::all(SERVERS).map(|it| board.pass(it));
     Ok(passes.collect::<Result<_, _>>()?)
 }
 
 /// Waits until a server executes the account's shard, and runs the work on the account as that server.
 fn with<R>(
     passes: &mut [Pass<Account>],
-    shard: u16,
+    shard: ShardId,
     mut work: impl FnMut(&mut Account) -> R,
 ) -> Result<R, AdmitFault> {
     for server in (0..passes.len()).cycle() {
@@ -40,7 +40,7 @@ fn with<R>(
 /// at a time.
 fn transfer(
     [ones, others]: &mut [Vec<Pass<Account>>; 2],
-    (from, to): (u16, u16),
+    (from, to): (ShardId, ShardId),
     sum: u64,
 ) -> Result<bool, AdmitFault> {
     // Everyone takes the lower shard first, so no two threads wait for each other.
@@ -61,21 +61,24 @@ fn transfer(
 }
 
 /// Makes many transfers. Returns how many succeeded.
-fn serve(board: &Board<Account>, thread: u16) -> Result<u64, BoxError> {
+fn serve(board: &Board<Account>, thread: usize) -> Result<u64, BoxError> {
     let mut passes = [passes(board)?, passes(board)?];
-    let mut done = 0;
+    let (accounts, mut done): (Vec<_>, u64) = (board.shards().collect(), 0);
     for turn in 0..TRANSFERS {
         let from = (turn + thread) % ACCOUNTS;
         let to = (from + 1 + turn % (ACCOUNTS - 1)) % ACCOUNTS;
-        done += u64::from(transfer(&mut passes, (from, to), u64::from(turn % 9))?);
+        let pair = (accounts[from], accounts[to]);
+        done += u64::from(transfer(&mut passes, pair, (turn % 9) as u64)?);
     }
     Ok(done)
 }
 
 fn migrate(control: &Control<Account>) -> Result<(), BoxError> {
-    for round in 0..1_000 {
-        let (shard, turn) = (round % ACCOUNTS, round / ACCOUNTS + 1);
-        control.migrate(shard, (shard + turn) % SERVERS + 1)?;
+    for round in 1..=125 {
+        for shard in ShardId::all(ACCOUNTS) {
+            let server = (shard.get() + round) % SERVERS + 1;
+            control.migrate(shard, ServerId::new(server)?)?;
+        }
     }
     Ok(())
 }
@@ -88,8 +91,8 @@ fn main() -> Result<(), BoxError> {
         .servers(SERVERS)
         .build((0..ACCOUNTS).map(|_| account()))?;
     let control = board.control();
-    for shard in 0..ACCOUNTS {
-        control.assign(shard, shard % SERVERS + 1)?;
+    for shard in board.shards() {
+        control.assign(shard, ServerId::new(shard.get() % SERVERS + 1)?)?;
     }
     let done = thread::scope(|scope| {
         let board = &board;
@@ -103,7 +106,7 @@ fn main() -> Result<(), BoxError> {
     drop(control);
     let accounts = board.into_bodies().map_err(|_| "the board is in use")?;
     let all: u64 = accounts.iter().map(|it| it.balance).sum();
-    assert_eq!(all, u64::from(ACCOUNTS) * FIRST_BALANCE);
+    assert_eq!(all, ACCOUNTS as u64 * FIRST_BALANCE);
     println!("{done} transfers, and nothing was lost");
     Ok(())
 }

@@ -2,6 +2,7 @@ use crate::entry::Entry;
 use crate::fault::AdmitFault;
 use crate::pass::{Mode, Pass};
 use crate::permit::Permit;
+use crate::shard_id::ShardId;
 use std::fmt;
 use std::future::Future;
 use std::pin::Pin;
@@ -15,7 +16,7 @@ pub struct Admission<'a, T> {
 }
 
 impl<'a, T> Admission<'a, T> {
-    pub(crate) fn new(pass: &'a mut Pass<T>, shard: u16, mode: Mode) -> Admission<'a, T> {
+    pub(crate) fn new(pass: &'a mut Pass<T>, shard: ShardId, mode: Mode) -> Admission<'a, T> {
         Admission {
             entry: Some(Entry::new(pass, shard, mode)),
         }

@@ -4,7 +4,9 @@ use crate::layout::Layout;
 use crate::limits::MAX_GENERATION;
 use crate::pass::Pass;
 use crate::raw::{self, Handle};
+use crate::server_id::ServerId;
 use crate::settings_fault::SettingsFault;
+use crate::shard_id::ShardId;
 use crate::waiters::Waiters;
 use std::cell::UnsafeCell;
 use std::fmt;
@@ -53,12 +55,12 @@ impl<T> Shared<T> {
     }
 
     // Only whoever is admitted to the shard reads and writes this, and admissions are ordered.
-    pub(crate) fn is_poisoned(&self, shard: u16) -> bool {
-        self.poisoned[usize::from(shard)].load(Ordering::Relaxed)
+    pub(crate) fn is_poisoned(&self, shard: ShardId) -> bool {
+        self.poisoned[shard.index()].load(Ordering::Relaxed)
     }
 
-    pub(crate) fn set_poisoned(&self, shard: u16, is_poisoned: bool) {
-        self.poisoned[usize::from(shard)].store(is_poisoned, Ordering::Relaxed);
+    pub(crate) fn set_poisoned(&self, shard: ShardId, is_poisoned: bool) {
+        self.poisoned[shard.index()].store(is_poisoned, Ordering::Relaxed);
     }
 }
 
@@ -177,17 +179,18 @@ impl<T> Board<T> {
     /// The first rule that the line breaks, `BadCount` if there are not as many bodies as shards, or `NoMemory`.
     ///
     /// ```
-    /// use durkenzo::Board;
+    /// use durkenzo::{Board, ServerId, ShardId};
     ///
     /// let line = r#"{"version": 1, "bounds": ["", "m"], "servers": [{"id": 1, "domain": 0, "capacity": 1},
     ///     {"id": 2, "domain": 1, "capacity": 2}], "groups": [{"limit": 2, "down": 1}],
     ///     "shards": [{"group": 0, "load": 1, "cap": 1}, {"group": 0, "load": 1, "cap": 1}],
     ///     "ops": 1, "kept": 1, "ceiling": 1000, "workers": 1}"#;
     /// let (board, layout) = Board::by_settings(line, [Vec::<u8>::new(), Vec::new()])?;
-    /// assert_eq!((board.count(), layout.shard_of("salt")), (2, 1));
-    /// board.control().assign(0, 1)?;
+    /// assert_eq!((board.count(), layout.shard_of("salt").get()), (2, 1));
+    /// let server = ServerId::new(1)?;
+    /// board.control().assign(ShardId::new(0)?, server)?;
     /// // Server 1 has room for one shard.
-    /// assert!(board.control().assign(1, 1).is_err());
+    /// assert!(board.control().assign(ShardId::new(1)?, server).is_err());
     /// # Ok::<(), Box<dyn std::error::Error>>(())
     /// ```
     pub fn by_settings(
@@ -234,16 +237,21 @@ impl<T> Board<T> {
         self.shared.bodies.len()
     }
 
+    /// Returns the board's shards, in order.
+    pub fn shards(&self) -> impl ExactSizeIterator<Item = ShardId> + Clone {
+        ShardId::all(self.count())
+    }
+
     /// Makes a pass, which acts as this server.
     ///
     /// # Errors
     ///
     /// `BadServer` if the board has no such server, or `NoMemory`.
-    pub fn pass(&self, server: u16) -> Result<Pass<T>, PassFault> {
+    pub fn pass(&self, server: ServerId) -> Result<Pass<T>, PassFault> {
         let mut handle = Handle::empty();
         // SAFETY: the control's handle is locked, and only this call uses the other.
-        match unsafe { raw::durkenzo_pass(&mut *self.shared.chief(), &mut handle, server) } {
-            0 => Ok(Pass::new(self.shared.clone(), handle)),
+        match unsafe { raw::durkenzo_pass(&mut *self.shared.chief(), &mut handle, server.get()) } {
+            0 => Ok(Pass::new(self.shared.clone(), handle, server)),
             code => Err(PassFault::of(code)),
         }
     }

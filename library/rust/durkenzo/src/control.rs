@@ -8,6 +8,8 @@ use crate::raw::{self, Handle, RecordParts};
 use crate::record::{Record, Stand};
 use crate::restart_step::RestartStep;
 use crate::restore_fault::RestoreFault;
+use crate::server_id::ServerId;
+use crate::shard_id::ShardId;
 use crate::waiters::{Attempt, Wait};
 use std::fmt;
 use std::future::{self, Future};
@@ -44,8 +46,8 @@ impl<T> Control<T> {
     /// # Errors
     ///
     /// [Those of a change](Control#errors).
-    pub fn assign(&self, shard: u16, server: u16) -> Result<(), ChangeFault> {
-        self.change(shard, Change::Assign(server))
+    pub fn assign(&self, shard: ShardId, server: ServerId) -> Result<(), ChangeFault> {
+        self.change(shard, Change::Assign(server.get()))
     }
 
     /// Begins a migration of the shard to this server.
@@ -53,8 +55,8 @@ impl<T> Control<T> {
     /// # Errors
     ///
     /// [Those of a change](Control#errors).
-    pub fn prepare_add_shard(&self, shard: u16, server: u16) -> Result<(), ChangeFault> {
-        self.change(shard, Change::PrepareAddShard(server))
+    pub fn prepare_add_shard(&self, shard: ShardId, server: ServerId) -> Result<(), ChangeFault> {
+        self.change(shard, Change::PrepareAddShard(server.get()))
     }
 
     /// Makes the shard's owner stop executing, and forward to the next owner.
@@ -62,7 +64,7 @@ impl<T> Control<T> {
     /// # Errors
     ///
     /// [Those of a change](Control#errors).
-    pub fn prepare_drop_shard(&self, shard: u16) -> Result<(), ChangeFault> {
+    pub fn prepare_drop_shard(&self, shard: ShardId) -> Result<(), ChangeFault> {
         self.change(shard, Change::PrepareDropShard)
     }
 
@@ -71,7 +73,7 @@ impl<T> Control<T> {
     /// # Errors
     ///
     /// [Those of a change](Control#errors).
-    pub fn add_shard(&self, shard: u16) -> Result<(), ChangeFault> {
+    pub fn add_shard(&self, shard: ShardId) -> Result<(), ChangeFault> {
         self.change(shard, Change::AddShard)
     }
 
@@ -80,7 +82,7 @@ impl<T> Control<T> {
     /// # Errors
     ///
     /// [Those of a change](Control#errors).
-    pub fn drop_shard(&self, shard: u16) -> Result<(), ChangeFault> {
+    pub fn drop_shard(&self, shard: ShardId) -> Result<(), ChangeFault> {
         self.change(shard, Change::DropShard)
     }
 
@@ -89,7 +91,7 @@ impl<T> Control<T> {
     /// # Errors
     ///
     /// [Those of a change](Control#errors).
-    pub fn cancel(&self, shard: u16) -> Result<(), ChangeFault> {
+    pub fn cancel(&self, shard: ShardId) -> Result<(), ChangeFault> {
         self.change(shard, Change::Cancel)
     }
 
@@ -98,7 +100,7 @@ impl<T> Control<T> {
     /// # Errors
     ///
     /// [Those of a change](Control#errors).
-    pub fn pause(&self, shard: u16) -> Result<(), ChangeFault> {
+    pub fn pause(&self, shard: ShardId) -> Result<(), ChangeFault> {
         self.change(shard, Change::Pause)
     }
 
@@ -107,7 +109,7 @@ impl<T> Control<T> {
     /// # Errors
     ///
     /// [Those of a change](Control#errors).
-    pub fn resume(&self, shard: u16) -> Result<(), ChangeFault> {
+    pub fn resume(&self, shard: ShardId) -> Result<(), ChangeFault> {
         self.change(shard, Change::Resume)
     }
 
@@ -116,8 +118,8 @@ impl<T> Control<T> {
     /// # Errors
     ///
     /// [Those of a change](Control#errors).
-    pub fn reassign(&self, shard: u16, server: u16) -> Result<(), ChangeFault> {
-        self.change(shard, Change::Reassign(server))
+    pub fn reassign(&self, shard: ShardId, server: ServerId) -> Result<(), ChangeFault> {
+        self.change(shard, Change::Reassign(server.get()))
     }
 
     /// Moves the shard to this server by a whole migration. While the shard is admitted, this thread is parked before
@@ -132,7 +134,7 @@ impl<T> Control<T> {
     /// [Those of a change](Control#errors), except for `Busy` and `Raced`. If a step is refused, the steps before it
     /// stay made, and the shard is left in the middle of its migration. Before `add_shard`, [`Control::cancel`] goes
     /// back; after it, [`Control::drop_shard`] ends the migration.
-    pub fn migrate(&self, shard: u16, server: u16) -> Result<(), ChangeFault> {
+    pub fn migrate(&self, shard: ShardId, server: ServerId) -> Result<(), ChangeFault> {
         let mut steps = migration(server).into_iter();
         steps.try_for_each(|step| self.change_until(shard, step, None))
     }
@@ -143,7 +145,7 @@ impl<T> Control<T> {
     ///
     /// [Those of a change](Control#errors). `Busy` or `Raced` comes if a step would have to wait. The steps before it
     /// stay made, as with `migrate`.
-    pub fn try_migrate(&self, shard: u16, server: u16) -> Result<(), ChangeFault> {
+    pub fn try_migrate(&self, shard: ShardId, server: ServerId) -> Result<(), ChangeFault> {
         let mut steps = migration(server).into_iter();
         steps.try_for_each(|step| self.change(shard, step))
     }
@@ -154,7 +156,12 @@ impl<T> Control<T> {
     ///
     /// [Those of a change](Control#errors). `Busy` or `Raced` comes after the time. The steps before it stay made, as
     /// with `migrate`. [`Control::change_for`] takes one of the other steps.
-    pub fn migrate_for(&self, shard: u16, server: u16, time: Duration) -> Result<(), ChangeFault> {
+    pub fn migrate_for(
+        &self,
+        shard: ShardId,
+        server: ServerId,
+        time: Duration,
+    ) -> Result<(), ChangeFault> {
         let until = parked::end_of(time);
         let mut steps = migration(server).into_iter();
         steps.try_for_each(|step| self.change_until(shard, step, until))
@@ -167,7 +174,7 @@ impl<T> Control<T> {
     /// # Errors
     ///
     /// Those of [`Control::migrate`].
-    pub async fn migrate_async(&self, shard: u16, server: u16) -> Result<(), ChangeFault> {
+    pub async fn migrate_async(&self, shard: ShardId, server: ServerId) -> Result<(), ChangeFault> {
         for step in migration(server) {
             self.change_async(shard, step).await?;
         }
@@ -181,7 +188,7 @@ impl<T> Control<T> {
     /// # Errors
     ///
     /// `Change` with the first change that is refused, or `NoMemory`. The changes before the refused one stay made.
-    pub fn restore(&self, shard: u16, to: Stand) -> Result<(), RestoreFault> {
+    pub fn restore(&self, shard: ShardId, to: Stand) -> Result<(), RestoreFault> {
         let (from, mut at) = (self.stand(shard)?, to);
         let mut changes = Vec::new();
         while at != from {
@@ -200,7 +207,7 @@ impl<T> Control<T> {
     /// # Errors
     ///
     /// [Those of a step](Control#errors).
-    pub fn ask(&self, server: u16) -> Result<(), RestartFault> {
+    pub fn ask(&self, server: ServerId) -> Result<(), RestartFault> {
         self.restart(server, RestartStep::Ask)
     }
 
@@ -209,7 +216,7 @@ impl<T> Control<T> {
     /// # Errors
     ///
     /// [Those of a step](Control#errors).
-    pub fn approve(&self, server: u16) -> Result<(), RestartFault> {
+    pub fn approve(&self, server: ServerId) -> Result<(), RestartFault> {
         self.restart(server, RestartStep::Approve)
     }
 
@@ -218,7 +225,7 @@ impl<T> Control<T> {
     /// # Errors
     ///
     /// [Those of a step](Control#errors).
-    pub fn stopped(&self, server: u16) -> Result<(), RestartFault> {
+    pub fn stopped(&self, server: ServerId) -> Result<(), RestartFault> {
         self.restart(server, RestartStep::Stopped)
     }
 
@@ -227,7 +234,7 @@ impl<T> Control<T> {
     /// # Errors
     ///
     /// [Those of a step](Control#errors).
-    pub fn back(&self, server: u16) -> Result<(), RestartFault> {
+    pub fn back(&self, server: ServerId) -> Result<(), RestartFault> {
         self.restart(server, RestartStep::Back)
     }
 
@@ -237,7 +244,7 @@ impl<T> Control<T> {
     /// # Errors
     ///
     /// [Those of a step](Control#errors).
-    pub fn fail(&self, server: u16) -> Result<(), RestartFault> {
+    pub fn fail(&self, server: ServerId) -> Result<(), RestartFault> {
         self.restart(server, RestartStep::Fail)
     }
 
@@ -256,11 +263,8 @@ impl<T> Control<T> {
     /// # Errors
     ///
     /// `UnknownServer` if there is no such server, or `NoMemory`.
-    pub fn plan_drain(&self, server: u16) -> Result<Plan, PlanFault> {
-        match server {
-            0 => Err(PlanFault::UnknownServer),
-            server => self.plan(server),
-        }
+    pub fn plan_drain(&self, server: ServerId) -> Result<Plan, PlanFault> {
+        self.plan(server.get())
     }
 
     fn plan(&self, from: u16) -> Result<Plan, PlanFault> {
@@ -273,10 +277,10 @@ impl<T> Control<T> {
     }
 
     // Returns the shard's stand, which a pass of any server sees.
-    fn stand(&self, shard: u16) -> Result<Stand, RestoreFault> {
+    fn stand(&self, shard: ShardId) -> Result<Stand, RestoreFault> {
         let mut pass = self.any_pass()?;
         // SAFETY: only this call uses the handle.
-        match unsafe { raw::durkenzo_look_word(&mut pass, shard) } {
+        match unsafe { raw::durkenzo_look_word(&mut pass, shard.get()) } {
             raw::NO_WORD => Err(ChangeFault::UnknownShard.into()),
             word => Ok(Record::of_word(word).stand),
         }
@@ -301,11 +305,17 @@ impl<T> Control<T> {
     /// # Errors
     ///
     /// [Those of a change](Control#errors).
-    pub fn change(&self, shard: u16, change: Change) -> Result<(), ChangeFault> {
+    pub fn change(&self, shard: ShardId, change: Change) -> Result<(), ChangeFault> {
         let ((kind, server), mut read) = (change.parts(), RecordParts::default());
         // SAFETY: the control's handle is locked, and only this call uses the record.
         match unsafe {
-            raw::durkenzo_change(&mut *self.shared.chief(), shard, kind, server, &mut read)
+            raw::durkenzo_change(
+                &mut *self.shared.chief(),
+                shard.get(),
+                kind,
+                server,
+                &mut read,
+            )
         } {
             0 => Ok(()),
             code => Err(ChangeFault::of(code, Record::of(&read))),
@@ -319,7 +329,7 @@ impl<T> Control<T> {
     /// [Those of a change](Control#errors). `Busy` or `Raced` comes after the time.
     pub fn change_for(
         &self,
-        shard: u16,
+        shard: ShardId,
         change: Change,
         time: Duration,
     ) -> Result<(), ChangeFault> {
@@ -334,7 +344,7 @@ impl<T> Control<T> {
     /// [Those of a change](Control#errors), except for `Busy` and `Raced`.
     pub fn change_async(
         &self,
-        shard: u16,
+        shard: ShardId,
         change: Change,
     ) -> impl Future<Output = Result<(), ChangeFault>> + '_ {
         let mut wait = Wait::default();
@@ -351,7 +361,7 @@ impl<T> Control<T> {
     /// Makes the change, and waits at most until then, or for as long as it takes if no time is given.
     fn change_until(
         &self,
-        shard: u16,
+        shard: ShardId,
         change: Change,
         until: Option<Instant>,
     ) -> Result<(), ChangeFault> {
@@ -371,10 +381,10 @@ impl<T> Control<T> {
     /// # Errors
     ///
     /// [Those of a step](Control#errors).
-    pub fn restart(&self, server: u16, step: RestartStep) -> Result<(), RestartFault> {
+    pub fn restart(&self, server: ServerId, step: RestartStep) -> Result<(), RestartFault> {
         let kind = step.number();
         // SAFETY: the control's handle is locked.
-        match unsafe { raw::durkenzo_restart(&mut *self.shared.chief(), kind, server) } {
+        match unsafe { raw::durkenzo_restart(&mut *self.shared.chief(), kind, server.get()) } {
             0 => Ok(()),
             code => Err(RestartFault::of(code)),
         }
@@ -396,9 +406,9 @@ impl<T> fmt::Debug for Control<T> {
 }
 
 /// Returns the steps of a migration to this server, in order.
-fn migration(server: u16) -> [Change; 4] {
+fn migration(server: ServerId) -> [Change; 4] {
     [
-        Change::PrepareAddShard(server),
+        Change::PrepareAddShard(server.get()),
         Change::PrepareDropShard,
         Change::AddShard,
         Change::DropShard,

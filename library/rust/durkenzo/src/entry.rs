@@ -1,6 +1,7 @@
 use crate::fault::AdmitFault;
 use crate::pass::{Mode, Pass};
 use crate::record::Record;
+use crate::shard_id::ShardId;
 use crate::waiters::{Attempt, Wait};
 use std::future::Future;
 use std::pin::Pin;
@@ -9,13 +10,13 @@ use std::task::{Context, Poll};
 /// A pass that enters a shard as soon as no other pass is admitted to it. It ends with the number of the shard's body.
 pub(crate) struct Entry<'a, T> {
     pub(crate) pass: &'a mut Pass<T>,
-    pub(crate) shard: u16,
+    pub(crate) shard: ShardId,
     pub(crate) mode: Mode,
     wait: Wait,
 }
 
 impl<'a, T> Entry<'a, T> {
-    pub(crate) fn new(pass: &'a mut Pass<T>, shard: u16, mode: Mode) -> Entry<'a, T> {
+    pub(crate) fn new(pass: &'a mut Pass<T>, shard: ShardId, mode: Mode) -> Entry<'a, T> {
         Entry {
             pass,
             shard,

@@ -3,7 +3,9 @@ use crate::pass::Mode;
 use crate::raw::{self, AnswerParts, Handle, SentParts};
 use crate::reply::Reply;
 use crate::sent::Sent;
+use crate::server_id::ServerId;
 use crate::service::Texts;
+use crate::shard_id::ShardId;
 use std::fmt;
 use std::sync::Arc;
 
@@ -12,11 +14,11 @@ use std::sync::Arc;
 pub struct Envelope {
     pub(crate) handle: Handle,
     pub(crate) shared: Arc<Shared<Texts>>,
-    shard: u16,
+    shard: ShardId,
 }
 
 impl Envelope {
-    pub(crate) fn new(handle: Handle, shared: Arc<Shared<Texts>>, shard: u16) -> Envelope {
+    pub(crate) fn new(handle: Handle, shared: Arc<Shared<Texts>>, shard: ShardId) -> Envelope {
         Envelope {
             handle,
             shared,
@@ -25,7 +27,7 @@ impl Envelope {
     }
 
     /// Returns the shard of its request.
-    pub fn shard(&self) -> u16 {
+    pub fn shard(&self) -> ShardId {
         self.shard
     }
 
@@ -64,7 +66,7 @@ pub struct Answer {
     pub(crate) shared: Arc<Shared<Texts>>,
     number: u64,
     place: u64,
-    server: u16,
+    server: ServerId,
     reply: Reply,
 }
 
@@ -76,7 +78,7 @@ impl Answer {
             shared,
             number: parts.number,
             place: parts.place,
-            server: parts.server,
+            server: ServerId::of(parts.server).expect("a server executed it"),
             reply,
         }
     }
@@ -92,7 +94,7 @@ impl Answer {
     }
 
     /// Returns the server that executed the request.
-    pub fn server(&self) -> u16 {
+    pub fn server(&self) -> ServerId {
         self.server
     }
 

@@ -1,5 +1,6 @@
 //! Why a call is refused.
 use crate::record::Record;
+use crate::server_id::ServerId;
 use std::error::Error;
 use std::fmt;
 
@@ -24,6 +25,20 @@ impl AdmitFault {
             | Raced(it) => Some(it),
             UnknownShard | BadServer | Holding | Other(_) => None,
         }
+    }
+
+    /// Returns the server to which this one forwards the request, by the proved call [`Record::forward`] on the record
+    /// that was read. Returns `None` if this server forwards nothing. The next server admits the request in the mode
+    /// [`Forwarded`](crate::Mode::Forwarded) by this one.
+    #[must_use]
+    pub fn forward(&self, server: ServerId) -> Option<ServerId> {
+        ServerId::of(self.record()?.forward(server.get())?)
+    }
+
+    /// Returns the shard's owner in the record that was read, if there was one. A client sends its next request there.
+    #[must_use]
+    pub fn owner(&self) -> Option<ServerId> {
+        ServerId::of(self.record()?.owner()?)
     }
 
     /// Returns whether the same call may succeed if you make it again at once, because another thread had the shard or

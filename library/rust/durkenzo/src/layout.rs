@@ -1,15 +1,17 @@
 //! Which shard each key belongs to.
 //!
 //! ```
-//! use durkenzo::Layout;
+//! use durkenzo::{Layout, ShardId};
 //!
 //! let layout = Layout::new(["", "g", "n"])?;
-//! assert_eq!(layout.shard_of("hat"), 1);
-//! assert_eq!(layout.range(1), Some((b"g".to_vec(), Some(b"n".to_vec()))));
+//! let shard = layout.shard_of("hat");
+//! assert_eq!(shard, ShardId::new(1)?);
+//! assert_eq!(layout.range(shard), Some((b"g".to_vec(), Some(b"n".to_vec()))));
 //! # Ok::<(), Box<dyn std::error::Error>>(())
 //! ```
 use crate::fault::LayoutFault;
 use crate::raw::{self, Handle, Part};
+use crate::shard_id::ShardId;
 use std::fmt;
 use std::sync::atomic::{AtomicUsize, Ordering::Relaxed};
 use std::sync::{Mutex, MutexGuard, OnceLock, PoisonError};
@@ -98,21 +100,21 @@ impl Layout {
     }
 
     /// Returns the shard of the key. Any bytes are a key.
-    pub fn shard_of(&self, key: impl AsRef<[u8]>) -> u16 {
+    pub fn shard_of(&self, key: impl AsRef<[u8]>) -> ShardId {
         let (key, mut shard) = (key.as_ref(), 0);
         // SAFETY: the handle is locked, and the slice lasts as long as the call.
         let code = self.with(|handle| unsafe {
             raw::durkenzo_shard_of(handle, key.as_ptr(), key.len(), &mut shard)
         });
         assert_eq!(code, 0, "the handle of a layout keeps it");
-        shard
+        ShardId::of(shard)
     }
 
     /// Returns the bound at which the shard begins, and the one at which the next shard begins, if there is one.
     /// Returns `None` if there is no such shard.
-    pub fn range(&self, shard: u16) -> Option<(Vec<u8>, Option<Vec<u8>>)> {
-        let low = self.bound(shard)?;
-        Some((low, shard.checked_add(1).and_then(|it| self.bound(it))))
+    pub fn range(&self, shard: ShardId) -> Option<(Vec<u8>, Option<Vec<u8>>)> {
+        let low = self.bound(shard.get())?;
+        Some((low, self.bound(shard.get() + 1)))
     }
 
     /// Returns the result of the call on a handle that keeps the layout. The handle is locked while the call runs.

@@ -6,16 +6,17 @@
 //! servers.
 //!
 //! ```
-//! use durkenzo::{Board, Mode, Permit};
+//! use durkenzo::{Board, Mode, Permit, ServerId, ShardId};
 //!
 //! let board = Board::builder().servers(2).build(vec![0u64; 4])?;
 //! let control = board.control();
-//! control.assign(3, 1)?;
-//! let mut pass = board.pass(1)?;
-//! let mut permit = pass.admit(3, Mode::Direct)?;
+//! let (shard, server) = (ShardId::new(3)?, ServerId::new(1)?);
+//! control.assign(shard, server)?;
+//! let mut pass = board.pass(server)?;
+//! let mut permit = pass.admit(shard, Mode::Direct)?;
 //! *permit += 1;
 //! let front = Permit::finish(permit);
-//! assert_eq!((front.shard, front.generation), (3, 3));
+//! assert_eq!((front.shard, front.generation), (shard, 3));
 //! # Ok::<(), Box<dyn std::error::Error>>(())
 //! ```
 //!
@@ -25,45 +26,50 @@
 //!
 //! A pass has one permit at a time. No permit outlives its end or its pass:
 //! ```compile_fail,E0499
-//! # use durkenzo::{Board, Mode};
+//! # use durkenzo::{Board, Mode, Permit, ServerId, ShardId};
+//! # let (shard, server) = (ShardId::new(0).unwrap(), ServerId::new(1).unwrap());
 //! # let board = Board::builder().servers(1).build(vec![0u64; 2]).unwrap();
-//! # let mut pass = board.pass(1).unwrap();
-//! let first = pass.admit(0, Mode::Direct).unwrap();
-//! let second = pass.admit(1, Mode::Direct).unwrap();
+//! # let mut pass = board.pass(server).unwrap();
+//! let first = pass.admit(shard, Mode::Direct).unwrap();
+//! let second = pass.admit(ShardId::new(1).unwrap(), Mode::Direct).unwrap();
 //! drop(first);
 //! ```
 //! ```compile_fail,E0382
-//! # use durkenzo::{Board, Mode};
+//! # use durkenzo::{Board, Mode, Permit, ServerId, ShardId};
+//! # let (shard, server) = (ShardId::new(0).unwrap(), ServerId::new(1).unwrap());
 //! # let board = Board::builder().servers(1).build(vec![0u64; 2]).unwrap();
-//! # let mut pass = board.pass(1).unwrap();
-//! let mut permit = pass.admit(0, Mode::Direct).unwrap();
+//! # let mut pass = board.pass(server).unwrap();
+//! let mut permit = pass.admit(shard, Mode::Direct).unwrap();
 //! Permit::finish(permit);
 //! *permit += 1;
 //! ```
 //! ```compile_fail,E0505
-//! # use durkenzo::{Board, Mode};
+//! # use durkenzo::{Board, Mode, Permit, ServerId, ShardId};
+//! # let (shard, server) = (ShardId::new(0).unwrap(), ServerId::new(1).unwrap());
 //! # let board = Board::builder().servers(1).build(vec![0u64; 2]).unwrap();
-//! # let mut pass = board.pass(1).unwrap();
-//! let permit = pass.admit(0, Mode::Direct).unwrap();
+//! # let mut pass = board.pass(server).unwrap();
+//! let permit = pass.admit(shard, Mode::Direct).unwrap();
 //! drop(pass);
 //! drop(permit);
 //! ```
 //! A body never outlives its permit. A permit of one board can't be ended on another, because no call takes a permit:
 //! ```compile_fail,E0505
-//! # use durkenzo::{Board, Mode};
+//! # use durkenzo::{Board, Mode, Permit, ServerId, ShardId};
+//! # let (shard, server) = (ShardId::new(0).unwrap(), ServerId::new(1).unwrap());
 //! # let board = Board::builder().servers(1).build(vec![String::new()]).unwrap();
-//! # let mut pass = board.pass(1).unwrap();
-//! let permit = pass.admit(0, Mode::Direct).unwrap();
+//! # let mut pass = board.pass(server).unwrap();
+//! let permit = pass.admit(shard, Mode::Direct).unwrap();
 //! let body: &String = &permit;
 //! Permit::finish(permit);
 //! println!("{body}");
 //! ```
 //! ```compile_fail,E0599
-//! # use durkenzo::{Board, Mode};
+//! # use durkenzo::{Board, Mode, Permit, ServerId, ShardId};
+//! # let (shard, server) = (ShardId::new(0).unwrap(), ServerId::new(1).unwrap());
 //! # let board = Board::builder().servers(1).build(vec![0u64]).unwrap();
 //! # let other = Board::builder().servers(1).build(vec![0u64]).unwrap();
-//! # let (mut pass, mut other) = (board.pass(1).unwrap(), other.pass(1).unwrap());
-//! let permit = pass.admit(0, Mode::Direct).unwrap();
+//! # let (mut pass, mut other) = (board.pass(server).unwrap(), other.pass(server).unwrap());
+//! let permit = pass.admit(shard, Mode::Direct).unwrap();
 //! other.finish(permit);
 //! ```
 //! If bodies can't be sent between threads, the board can't either:
@@ -81,6 +87,7 @@ mod control;
 mod entry;
 mod envelope;
 mod fault;
+mod id_fault;
 mod layout;
 mod limits;
 mod map;
@@ -98,9 +105,11 @@ mod restore_fault;
 mod routes;
 mod seat;
 mod sent;
+mod server_id;
 mod service;
 mod service_pass;
 mod settings_fault;
+mod shard_id;
 mod waiters;
 pub mod word;
 
@@ -114,6 +123,7 @@ pub use fault::{
     PassFault, PlanFault, PublishFault, RestartFault, RoutesFault, SendFault, ServeFault,
     UnknownShard,
 };
+pub use id_fault::IdFault;
 pub use layout::Layout;
 pub use limits::{MAX_GENERATION, MAX_KEY, MAX_SERVER, MAX_SHARD, MAX_TEXT, MOST_HOPS};
 pub use map::Map;
@@ -128,9 +138,11 @@ pub use restart_step::RestartStep;
 pub use restore_fault::RestoreFault;
 pub use routes::{Route, Router, Routes};
 pub use sent::{Sent, SentFault};
+pub use server_id::ServerId;
 pub use service::{Service, ServiceBuilder, Texts};
 pub use service_pass::{ServeRefused, Served, ServicePass};
 pub use settings_fault::SettingsFault;
+pub use shard_id::ShardId;
 
 /// Whether the library under this crate was proved. A library built by `tools/unproved --library` wasn't.
 pub const IS_PROVED: bool = option_env!("DURKENZO_UNPROVED").is_none();

@@ -8,6 +8,8 @@ use crate::permit::Permit;
 use crate::raw::{self, Handle};
 use crate::record::Record;
 use crate::seat::Seat;
+use crate::server_id::ServerId;
+use crate::shard_id::ShardId;
 use std::fmt;
 use std::sync::Arc;
 use std::time::Duration;
@@ -18,7 +20,7 @@ pub enum Mode {
     /// From a client.
     Direct,
     /// From this server, as one that it forwarded.
-    Forwarded(u16),
+    Forwarded(ServerId),
 }
 
 /// A thread's access to a board. It acts as one server for as long as it lives, and has one permit at a time. A thread
@@ -26,14 +28,25 @@ pub enum Mode {
 pub struct Pass<T> {
     // This field is before `shared`, because a body must not be dropped before the admission ends.
     pub(crate) seat: Seat,
+    server: ServerId,
     pub(crate) shared: Arc<Shared<T>>,
 }
 
 impl<T> Pass<T> {
-    pub(crate) fn new(shared: Arc<Shared<T>>, handle: Handle) -> Pass<T> {
+    pub(crate) fn new(shared: Arc<Shared<T>>, handle: Handle, server: ServerId) -> Pass<T> {
         let waiters = shared.waiters.clone();
         let seat = Seat { handle, waiters };
-        Pass { seat, shared }
+        Pass {
+            seat,
+            server,
+            shared,
+        }
+    }
+
+    /// Returns the server as which the pass acts.
+    #[must_use]
+    pub fn server(&self) -> ServerId {
+        self.server
     }
 
     /// Returns the shard's record, as the pass now sees it.
@@ -41,9 +54,9 @@ impl<T> Pass<T> {
     /// # Errors
     ///
     /// `UnknownShard` if there is no such shard.
-    pub fn look(&mut self, shard: u16) -> Result<Record, UnknownShard> {
+    pub fn look(&mut self, shard: ShardId) -> Result<Record, UnknownShard> {
         // SAFETY: this pass is borrowed exclusively and owns the handle.
-        match unsafe { raw::durkenzo_look_word(&mut self.seat.handle, shard) } {
+        match unsafe { raw::durkenzo_look_word(&mut self.seat.handle, shard.get()) } {
             raw::NO_WORD => Err(UnknownShard),
             word => Ok(Record::of_word(word)),
         }
@@ -91,7 +104,7 @@ impl<T> Pass<T> {
     // When this is inlined, an admitted caller doesn't wait for a permit to be written to memory, and the compiler
     // builds only the parts of a fault that the caller reads.
     #[inline(always)]
-    pub fn admit(&mut self, shard: u16, mode: Mode) -> Result<Permit<'_, T>, AdmitFault> {
+    pub fn admit(&mut self, shard: ShardId, mode: Mode) -> Result<Permit<'_, T>, AdmitFault> {
         match self.enter(shard, mode) {
             Ok(number) => Ok(Permit::of(self, shard, number)),
             Err((code, word)) => Err(AdmitFault::of(code, Record::of_word(word))),
@@ -105,7 +118,11 @@ impl<T> Pass<T> {
     /// # Errors
     ///
     /// Those of [`Pass::admit`], except for `Admitted` and `Raced`.
-    pub fn admit_blocking(&mut self, shard: u16, mode: Mode) -> Result<Permit<'_, T>, AdmitFault> {
+    pub fn admit_blocking(
+        &mut self,
+        shard: ShardId,
+        mode: Mode,
+    ) -> Result<Permit<'_, T>, AdmitFault> {
         self.admit_until(shard, mode, None)
     }
 
@@ -116,13 +133,14 @@ impl<T> Pass<T> {
     /// Those of [`Pass::admit`]. `Admitted` or `Raced` comes after the time.
     ///
     /// ```
-    /// # use durkenzo::{AdmitFault, Board, Mode};
+    /// # use durkenzo::{AdmitFault, Board, Mode, ServerId, ShardId};
     /// # use std::time::Duration;
     /// let board = Board::builder().build(vec![0u64])?;
-    /// board.control().assign(0, 1)?;
-    /// let (mut pass, mut other) = (board.pass(1)?, board.pass(1)?);
-    /// let held = pass.admit(0, Mode::Direct)?;
-    /// let refused = other.admit_for(0, Mode::Direct, Duration::from_millis(1));
+    /// let (shard, server) = (ShardId::new(0)?, ServerId::new(1)?);
+    /// board.control().assign(shard, server)?;
+    /// let (mut pass, mut other) = (board.pass(server)?, board.pass(server)?);
+    /// let held = pass.admit(shard, Mode::Direct)?;
+    /// let refused = other.admit_for(shard, Mode::Direct, Duration::from_millis(1));
     /// assert!(matches!(refused, Err(AdmitFault::Admitted(_))));
     /// # drop(refused);
     /// # drop(held);
@@ -130,7 +148,7 @@ impl<T> Pass<T> {
     /// ```
     pub fn admit_for(
         &mut self,
-        shard: u16,
+        shard: ShardId,
         mode: Mode,
         time: Duration,
     ) -> Result<Permit<'_, T>, AdmitFault> {
@@ -150,12 +168,12 @@ impl<T> Pass<T> {
     /// ```
     /// # use durkenzo::{AdmitFault, Mode, Pass};
     /// async fn count(pass: &mut Pass<u64>) -> Result<u64, AdmitFault> {
-    ///     let mut count = pass.admit_async(0, Mode::Direct).await?;
+    ///     let mut count = pass.admit_async(shard, Mode::Direct).await?;
     ///     *count += 1;
     ///     Ok(*count)
     /// }
     /// ```
-    pub fn admit_async(&mut self, shard: u16, mode: Mode) -> Admission<'_, T> {
+    pub fn admit_async(&mut self, shard: ShardId, mode: Mode) -> Admission<'_, T> {
         Admission::new(self, shard, mode)
     }
 
@@ -166,7 +184,7 @@ impl<T> Pass<T> {
     /// Those of [`Pass::admit_blocking`].
     pub fn with<R>(
         &mut self,
-        shard: u16,
+        shard: ShardId,
         mode: Mode,
         work: impl FnOnce(&mut Permit<'_, T>) -> R,
     ) -> Result<R, AdmitFault> {
@@ -188,7 +206,7 @@ impl<T> Pass<T> {
     /// Those of [`Pass::admit`].
     pub fn try_with<R>(
         &mut self,
-        shard: u16,
+        shard: ShardId,
         mode: Mode,
         work: impl FnOnce(&mut Permit<'_, T>) -> R,
     ) -> Result<R, AdmitFault> {
@@ -202,7 +220,7 @@ impl<T> Pass<T> {
     /// Those of [`Pass::admit_for`].
     pub fn with_for<R>(
         &mut self,
-        shard: u16,
+        shard: ShardId,
         mode: Mode,
         time: Duration,
         work: impl FnOnce(&mut Permit<'_, T>) -> R,
@@ -212,7 +230,7 @@ impl<T> Pass<T> {
 
     fn admit_until(
         &mut self,
-        shard: u16,
+        shard: ShardId,
         mode: Mode,
         time: Option<Duration>,
     ) -> Result<Permit<'_, T>, AdmitFault> {
@@ -229,7 +247,7 @@ impl<T> Pass<T> {
     #[inline(never)]
     fn wait_after(
         &mut self,
-        shard: u16,
+        shard: ShardId,
         mode: Mode,
         (code, word): (u32, u64),
         time: Option<Duration>,
@@ -252,13 +270,12 @@ impl<T> Pass<T> {
     /// Returns the number of the shard's body if the pass is now admitted to it. Otherwise returns the code of the
     /// refusal, with the word of the record that was read, or 0.
     #[inline(always)]
-    pub(crate) fn enter(&mut self, shard: u16, mode: Mode) -> Result<u64, (u32, u64)> {
+    pub(crate) fn enter(&mut self, shard: ShardId, mode: Mode) -> Result<u64, (u32, u64)> {
         let from = match mode {
             Mode::Direct => 0,
-            Mode::Forwarded(0) => return Err((raw::BAD_ARGUMENT, 0)),
-            Mode::Forwarded(server) => server,
+            Mode::Forwarded(server) => server.get(),
         };
-        raw::admit(&mut self.seat.handle, shard, from)
+        raw::admit(&mut self.seat.handle, shard.get(), from)
     }
 }
 

@@ -1,4 +1,5 @@
 use crate::pass::Pass;
+use crate::shard_id::ShardId;
 use std::fmt;
 use std::marker::PhantomData;
 use std::mem::ManuallyDrop;
@@ -9,7 +10,7 @@ use std::thread;
 #[derive(Clone, Copy, Debug, PartialEq, Eq)]
 pub struct Front {
     /// The shard.
-    pub shard: u16,
+    pub shard: ShardId,
     /// The shard's generation from then on.
     pub generation: u64,
 }
@@ -25,7 +26,7 @@ pub struct Front {
 #[must_use = "the admission ends where the permit is dropped"]
 pub struct Permit<'a, T> {
     pass: &'a mut Pass<T>,
-    shard: u16,
+    shard: ShardId,
     body: *mut T,
     /// Whether the thread was panicking already at the admission. Then a panic is not the permit's.
     was_panicking: bool,
@@ -41,7 +42,7 @@ unsafe impl<T: Send + Sync> Sync for Permit<'_, T> {}
 impl<'a, T> Permit<'a, T> {
     /// Returns the permit of a pass that is admitted to the shard. The body has this number.
     #[inline(always)]
-    pub(crate) fn of(pass: &'a mut Pass<T>, shard: u16, number: u64) -> Permit<'a, T> {
+    pub(crate) fn of(pass: &'a mut Pass<T>, shard: ShardId, number: u64) -> Permit<'a, T> {
         let body = pass.shared.body(number);
         Permit {
             pass,
@@ -56,7 +57,7 @@ impl<'a, T> Permit<'a, T> {
 impl<T> Permit<'_, T> {
     /// Returns the permit's shard.
     #[must_use]
-    pub fn shard(permit: &Self) -> u16 {
+    pub fn shard(permit: &Self) -> ShardId {
         permit.shard
     }
 
@@ -67,13 +68,14 @@ impl<T> Permit<'_, T> {
     /// [`Builder::after`](crate::Builder::after).
     ///
     /// ```
-    /// # use durkenzo::{Board, Mode, Permit};
+    /// # use durkenzo::{Board, Mode, Permit, ServerId, ShardId};
     /// let board = Board::builder().servers(1).after(200).build(vec![0u64])?;
-    /// board.control().assign(0, 1)?;
-    /// let mut pass = board.pass(1)?;
-    /// let earlier = Permit::token(&mut pass.admit(0, Mode::Direct)?);
+    /// let (shard, server) = (ShardId::new(0)?, ServerId::new(1)?);
+    /// board.control().assign(shard, server)?;
+    /// let mut pass = board.pass(server)?;
+    /// let earlier = Permit::token(&mut pass.admit(shard, Mode::Direct)?);
     /// assert!(earlier > 200);
-    /// assert!(Permit::token(&mut pass.admit(0, Mode::Direct)?) > earlier);
+    /// assert!(Permit::token(&mut pass.admit(shard, Mode::Direct)?) > earlier);
     /// # Ok::<(), Box<dyn std::error::Error>>(())
     /// ```
     #[must_use]
@@ -94,19 +96,20 @@ impl<T> Permit<'_, T> {
     /// may then be half changed.
     ///
     /// ```
-    /// # use durkenzo::{Board, Mode, Permit};
+    /// # use durkenzo::{Board, Mode, Permit, ServerId, ShardId};
     /// # use std::panic::catch_unwind;
     /// let board = Board::builder().build(vec![vec![1, 2]])?;
-    /// board.control().assign(0, 1)?;
-    /// let mut pass = board.pass(1)?;
+    /// let (shard, server) = (ShardId::new(0)?, ServerId::new(1)?);
+    /// board.control().assign(shard, server)?;
+    /// let mut pass = board.pass(server)?;
     /// let caught = catch_unwind(|| {
-    ///     let mut pass = board.pass(1).unwrap();
-    ///     let mut body = pass.admit(0, Mode::Direct).unwrap();
+    ///     let mut pass = board.pass(server).unwrap();
+    ///     let mut body = pass.admit(shard, Mode::Direct).unwrap();
     ///     body.clear();
     ///     panic!("before the new items came");
     /// });
     /// assert!(caught.is_err());
-    /// let mut body = pass.admit(0, Mode::Direct)?;
+    /// let mut body = pass.admit(shard, Mode::Direct)?;
     /// assert!(Permit::is_poisoned(&body));
     /// body.push(1);
     /// Permit::clear_poison(&mut body);

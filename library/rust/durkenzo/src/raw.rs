@@ -118,9 +118,6 @@ const _: () = {
     assert!(offset_of!(RouteParts, server) == 8);
 };
 
-/// The code that a call returns if a server's number is out of bounds.
-pub(crate) const BAD_ARGUMENT: u32 = 2;
-
 /// The code for a server that the board doesn't have.
 pub(crate) const UNKNOWN_SERVER: u32 = 30;
 

@@ -1,13 +1,15 @@
 use crate::fault::{PublishFault, RoutesFault};
 use crate::pass::Pass;
 use crate::raw::{self, Handle, RouteParts};
+use crate::server_id::ServerId;
+use crate::shard_id::ShardId;
 use std::sync::{Mutex, MutexGuard, PoisonError};
 
 /// A shard's owner at a generation.
 #[derive(Clone, Copy, Debug, PartialEq, Eq)]
 pub struct Route {
     /// The owner.
-    pub server: u16,
+    pub server: ServerId,
     /// The shard's generation when the route was made.
     pub generation: u64,
 }
@@ -19,15 +21,16 @@ pub struct Route {
 /// owner between `add_shard` and `drop_shard`, because the previous owner forwards to the new one until `drop_shard`.
 ///
 /// ```
-/// use durkenzo::{Board, Routes};
+/// use durkenzo::{Board, Routes, ServerId, ShardId};
 ///
 /// let board = Board::builder().servers(2).build(vec![0u64; 4])?;
 /// let routes = Routes::new(board.count())?;
 /// let mut router = routes.router()?;
-/// board.control().assign(3, 2)?;
-/// let mut pass = board.pass(1)?;
-/// routes.publish(&mut pass, 3)?;
-/// assert_eq!(router.route(3).map(|it| it.server), Some(2));
+/// let (shard, owner) = (ShardId::new(3)?, ServerId::new(2)?);
+/// board.control().assign(shard, owner)?;
+/// let mut pass = board.pass(ServerId::new(1)?)?;
+/// routes.publish(&mut pass, shard)?;
+/// assert_eq!(router.route(shard).map(|it| it.server), Some(owner));
 /// # Ok::<(), Box<dyn std::error::Error>>(())
 /// ```
 #[derive(Debug)]
@@ -83,20 +86,25 @@ impl Routes {
     ///
     /// `UnknownShard` if the board or the map has no such shard, `WrongPhase` if nobody owns it, or `OldRoute` if its
     /// last route is as new. The map doesn't change then.
-    pub fn publish<T>(&self, pass: &mut Pass<T>, shard: u16) -> Result<Route, PublishFault> {
+    pub fn publish<T>(&self, pass: &mut Pass<T>, shard: ShardId) -> Result<Route, PublishFault> {
         let mut publisher = self.publisher();
         let record = pass
             .look(shard)
             .ok()
-            .filter(|_| usize::from(shard) < self.count)
+            .filter(|_| shard.index() < self.count)
             .ok_or(PublishFault::UnknownShard)?;
         let route = Route {
-            server: record.owner().ok_or(PublishFault::WrongPhase)?,
+            server: record
+                .owner()
+                .and_then(ServerId::of)
+                .ok_or(PublishFault::WrongPhase)?,
             generation: record.generation,
         };
         let Route { server, generation } = route;
         // SAFETY: the publisher's handle is locked.
-        match unsafe { raw::durkenzo_publish(&mut *publisher, shard, server, generation) } {
+        match unsafe {
+            raw::durkenzo_publish(&mut *publisher, shard.get(), server.get(), generation)
+        } {
             0 => Ok(route),
             code => Err(PublishFault::of(code)),
         }
@@ -114,13 +122,11 @@ impl Router {
     /// Returns the shard's route, if it has one. The route is the last one of the publications that the router has now
     /// seen, which include all that it had seen before. A shard outside of the map has no route.
     #[inline]
-    pub fn route(&mut self, shard: u16) -> Option<Route> {
+    pub fn route(&mut self, shard: ShardId) -> Option<Route> {
         let mut parts = RouteParts::default();
         // SAFETY: this router is borrowed exclusively and owns the handle. If the shard is refused, the parts stay 0.
-        unsafe { raw::durkenzo_route(&mut self.handle, shard, &mut parts) };
-        match parts {
-            RouteParts { server: 0, .. } => None,
-            RouteParts { server, generation } => Some(Route { server, generation }),
-        }
+        unsafe { raw::durkenzo_route(&mut self.handle, shard.get(), &mut parts) };
+        let generation = parts.generation;
+        ServerId::of(parts.server).map(|server| Route { server, generation })
     }
 }

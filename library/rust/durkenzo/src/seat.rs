@@ -1,4 +1,5 @@
 use crate::raw::{self, Handle};
+use crate::shard_id::ShardId;
 use crate::waiters::Waiters;
 
 /// A pass in the library, with the queues of callers that wait for an admission of the pass to end.
@@ -10,7 +11,7 @@ pub(crate) struct Seat {
 impl Seat {
     /// Ends the admission to this shard, and wakes the next caller. Returns the shard's generation after that.
     #[inline(always)]
-    pub(crate) fn finish(&mut self, shard: u16) -> u64 {
+    pub(crate) fn finish(&mut self, shard: ShardId) -> u64 {
         let mut generation = 0;
         // SAFETY: this seat is borrowed exclusively and owns the handle.
         let code = unsafe { raw::durkenzo_finish(&mut self.handle, &mut generation) };

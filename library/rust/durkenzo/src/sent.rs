@@ -2,6 +2,8 @@
 use crate::limits::{MAX_SERVER, MAX_SHARD, MOST_HOPS};
 use crate::pass::Mode;
 use crate::raw::SentParts;
+use crate::server_id::ServerId;
+use crate::shard_id::ShardId;
 use std::error::Error;
 use std::fmt;
 
@@ -11,7 +13,7 @@ pub struct Sent {
     /// The number that its sender gave it.
     pub number: u64,
     /// The shard that it is for.
-    pub shard: u16,
+    pub shard: ShardId,
     /// How it came to the server that serves it next.
     pub mode: Mode,
     /// How often it was forwarded: 0 if it came directly, 1 to 4 if it was forwarded.
@@ -74,11 +76,8 @@ impl Sent {
     pub(crate) fn of(parts: &SentParts) -> Sent {
         Sent {
             number: parts.number,
-            shard: parts.shard,
-            mode: match parts.from {
-                0 => Mode::Direct,
-                server => Mode::Forwarded(server),
-            },
+            shard: ShardId::of(parts.shard),
+            mode: ServerId::of(parts.from).map_or(Mode::Direct, Mode::Forwarded),
             hops: parts.hops,
         }
     }
@@ -86,10 +85,10 @@ impl Sent {
     pub(crate) fn parts(&self) -> SentParts {
         SentParts {
             number: self.number,
-            shard: self.shard,
+            shard: self.shard.get(),
             from: match self.mode {
                 Mode::Direct => 0,
-                Mode::Forwarded(server) => server,
+                Mode::Forwarded(server) => server.get(),
             },
             hops: self.hops,
         }

@@ -1,18 +1,19 @@
 //! A board of the sample service. The library itself executes its requests.
 //!
 //! ```
-//! use durkenzo::{Layout, Reply, Request, Served, Service, Value};
+//! use durkenzo::{Layout, Reply, Request, Served, ServerId, Service, ShardId, Value};
 //!
 //! let service = Service::builder(Layout::new(["", "n"])?).servers(2).build()?;
 //! let control = service.control();
-//! control.assign(0, 1)?;
-//! control.assign(1, 2)?;
-//! let (mut client, mut server) = (service.pass(1)?, service.pass(2)?);
+//! let (one, two) = (ServerId::new(1)?, ServerId::new(2)?);
+//! control.assign(ShardId::new(0)?, one)?;
+//! control.assign(ShardId::new(1)?, two)?;
+//! let (mut client, mut server) = (service.pass(one)?, service.pass(two)?);
 //! let sent = client.envelope(7, &Request::Add(b"visits", 3))?;
 //! let Served::Answered(answer) = server.serve(sent)? else {
 //!     panic!("the owner forwards nothing");
 //! };
-//! assert_eq!((answer.number(), answer.server(), answer.place()), (7, 2, 0));
+//! assert_eq!((answer.number(), answer.server(), answer.place()), (7, two, 0));
 //! assert_eq!(answer.reply(), &Reply::Value(Value::Count(3)));
 //! client.hear(answer)?;
 //! # Ok::<(), Box<dyn std::error::Error>>(())
@@ -23,6 +24,7 @@ use crate::fault::{BuildFault, PassFault};
 use crate::layout::Layout;
 use crate::limits::MAX_GENERATION;
 use crate::raw::{self, Handle};
+use crate::server_id::ServerId;
 use crate::service_pass::ServicePass;
 use crate::settings_fault::SettingsFault;
 use std::fmt;
@@ -156,14 +158,15 @@ impl Service {
     /// # Errors
     ///
     /// `BadServer` if the board has no such server, or `NoMemory`.
-    pub fn pass(&self, server: u16) -> Result<ServicePass, PassFault> {
+    pub fn pass(&self, server: ServerId) -> Result<ServicePass, PassFault> {
         let mut handle = Handle::empty();
         // SAFETY: the control's handle is locked, and only this call uses the other.
-        match unsafe { raw::durkenzo_pass(&mut *self.shared.chief(), &mut handle, server) } {
+        match unsafe { raw::durkenzo_pass(&mut *self.shared.chief(), &mut handle, server.get()) } {
             0 => Ok(ServicePass::new(
                 handle,
                 self.shared.clone(),
                 self.layout.clone(),
+                server,
             )),
             code => Err(PassFault::of(code)),
         }

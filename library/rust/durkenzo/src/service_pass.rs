@@ -8,7 +8,9 @@ use crate::record::Record;
 use crate::reply::Reply;
 use crate::request::Request;
 use crate::sent::Sent;
+use crate::server_id::ServerId;
 use crate::service::Texts;
+use crate::shard_id::ShardId;
 use std::alloc::{self, handle_alloc_error};
 use std::error::Error;
 use std::fmt;
@@ -19,6 +21,7 @@ pub struct ServicePass {
     handle: Handle,
     shared: Arc<Shared<Texts>>,
     layout: Arc<Layout>,
+    server: ServerId,
 }
 
 /// The result of serving an envelope.
@@ -27,7 +30,7 @@ pub enum Served {
     /// The server executed the request.
     Answered(Answer),
     /// The envelope must go on to this server. It has one hop more.
-    Forward(u16, Envelope),
+    Forward(ServerId, Envelope),
 }
 
 /// An envelope that a server refused, and the reason.
@@ -44,12 +47,20 @@ impl ServicePass {
         handle: Handle,
         shared: Arc<Shared<Texts>>,
         layout: Arc<Layout>,
+        server: ServerId,
     ) -> ServicePass {
         ServicePass {
             handle,
             shared,
             layout,
+            server,
         }
+    }
+
+    /// Returns the server as which the pass acts.
+    #[must_use]
+    pub fn server(&self) -> ServerId {
+        self.server
     }
 
     /// Returns the shard's record, as the pass now sees it.
@@ -57,9 +68,9 @@ impl ServicePass {
     /// # Errors
     ///
     /// `UnknownShard` if there is no such shard.
-    pub fn look(&mut self, shard: u16) -> Result<Record, UnknownShard> {
+    pub fn look(&mut self, shard: ShardId) -> Result<Record, UnknownShard> {
         // SAFETY: this pass is borrowed exclusively and owns the handle.
-        match unsafe { raw::durkenzo_look_word(&mut self.handle, shard) } {
+        match unsafe { raw::durkenzo_look_word(&mut self.handle, shard.get()) } {
             raw::NO_WORD => Err(UnknownShard),
             word => Ok(Record::of_word(word)),
         }
@@ -88,10 +99,6 @@ impl ServicePass {
     ///
     /// Those of [`ServicePass::envelope`], and `NotSent` if no envelope has this mode with this many hops.
     pub fn received(&mut self, sent: &Sent, request: &Request<'_>) -> Result<Envelope, SendFault> {
-        // The library would take server 0 for a request that came directly.
-        if sent.mode == Mode::Forwarded(0) {
-            return Err(SendFault::NotSent);
-        }
         let (kind, key, other, amount) = request.parts();
         let mut handle = Handle::empty();
         // SAFETY: this pass is borrowed exclusively and owns one handle, only this call uses the other, and the slices
@@ -146,7 +153,10 @@ impl ServicePass {
         self.shared.waiters.wake(envelope.shard());
         match code {
             0 => Ok(Served::Answered(answer_of(envelope))),
-            60 => Ok(Served::Forward(to, envelope)),
+            60 => {
+                let to = ServerId::of(to).expect("a forward names a server");
+                Ok(Served::Forward(to, envelope))
+            }
             code => Err(ServeRefused {
                 fault: ServeFault::of(code, Record::of(&read)),
                 envelope,
@@ -177,11 +187,11 @@ impl ServicePass {
     ///
     /// Returns why the server isn't admitted, or `NoMemory`. `NoMemory` comes after the server was admitted: the
     /// admission ended without a checkpoint, and took 2 of the shard's generations.
-    pub fn checkpoint(&mut self, shard: u16) -> Result<u64, CheckpointFault> {
+    pub fn checkpoint(&mut self, shard: ShardId) -> Result<u64, CheckpointFault> {
         let (mut generation, mut read) = (0, RecordParts::default());
         // SAFETY: this pass is borrowed exclusively and owns the handle.
         let code = unsafe {
-            raw::durkenzo_checkpoint(&mut self.handle, shard, &mut generation, &mut read)
+            raw::durkenzo_checkpoint(&mut self.handle, shard.get(), &mut generation, &mut read)
         };
         self.shared.waiters.wake(shard);
         match code {

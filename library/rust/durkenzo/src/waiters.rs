@@ -1,4 +1,5 @@
 //! The callers that wait until a shard's admission ends.
+use crate::shard_id::ShardId;
 use std::collections::VecDeque;
 use std::fmt;
 use std::sync::atomic::{AtomicUsize, Ordering};
@@ -75,8 +76,8 @@ impl Waiters {
     // at the shard again. Both are full barriers on x86-64, which is the only target. So either this read sees the
     // caller, or the caller sees that the admission ended.
     #[inline(always)]
-    pub(crate) fn wake(&self, shard: u16) {
-        let queue = self.0.get(usize::from(shard));
+    pub(crate) fn wake(&self, shard: ShardId) {
+        let queue = self.0.get(shard.index());
         if let Some(queue) = queue.filter(|it| it.count.load(Ordering::SeqCst) > 0) {
             queue.wake_first();
         }
@@ -102,10 +103,10 @@ struct Place {
 }
 
 impl Place {
-    fn new(waiters: &Waiters, shard: u16) -> Place {
+    fn new(waiters: &Waiters, shard: ShardId) -> Place {
         Place {
             waiters: waiters.clone(),
-            shard: shard.into(),
+            shard: shard.index(),
             number: 0,
             is_admitted: false,
         }
@@ -165,7 +166,7 @@ impl Wait {
     pub(crate) fn poll<R>(
         &mut self,
         context: &mut Context<'_>,
-        (waiters, shard): (&Waiters, u16),
+        (waiters, shard): (&Waiters, ShardId),
         mut attempt: impl FnMut() -> Attempt<R>,
         is_admission: impl FnOnce(&R) -> bool,
     ) -> Poll<R> {

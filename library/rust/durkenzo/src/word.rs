@@ -84,8 +84,7 @@ pub fn of(record: &Record) -> Option<u64> {
 pub fn accepts(word: u64, server: u16, mode: Mode) -> Option<bool> {
     let from = match mode {
         Mode::Direct => 0,
-        Mode::Forwarded(0) => return None,
-        Mode::Forwarded(server) => server,
+        Mode::Forwarded(server) => server.get(),
     };
     let mut accepted = false;
     // SAFETY: only this call uses the answer.
@@ -126,8 +125,7 @@ pub fn admitted(
 ) -> Result<u64, WordFault<AdmitFault>> {
     let from = match mode {
         Mode::Direct => 0,
-        Mode::Forwarded(0) => return Err(WordFault::Refused(AdmitFault::BadServer)),
-        Mode::Forwarded(server) => server,
+        Mode::Forwarded(server) => server.get(),
     };
     let mut next = 0;
     // SAFETY: only this call uses the number.

@@ -1,4 +1,7 @@
 //! Compares the map with one of the standard library.
+mod common;
+
+use common::{server_id, shard_id};
 use durkenzo::{Board, Held, LentReply, Map, MapFault, Measure, Mode, Reply, Request, Value};
 use std::collections::BTreeMap;
 
@@ -224,10 +227,10 @@ fn replies_and_texts_that_are_written_over_are_let_go() {
 fn a_map_is_a_body() {
     let bodies: Vec<Map> = (0..4).map(|_| Map::new().unwrap()).collect();
     let board = Board::builder().servers(2).build(bodies).unwrap();
-    board.control().assign(3, 1).unwrap();
-    let mut pass = board.pass(1).unwrap();
+    board.control().assign(shard_id(3), server_id(1)).unwrap();
+    let mut pass = board.pass(server_id(1)).unwrap();
     for round in 1..=3 {
-        let mut map = pass.admit(3, Mode::Direct).unwrap();
+        let mut map = pass.admit(shard_id(3), Mode::Direct).unwrap();
         assert_eq!(map.add("rounds", 1), Ok(round));
     }
 }

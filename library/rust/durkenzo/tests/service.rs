@@ -1,8 +1,11 @@
 //! Tests of a board of the sample service.
+mod common;
+
+use common::{server_id, shard_id};
 use durkenzo::{
     AdmitFault, Board, BuildFault, ChangeFault, CheckpointFault, Envelope, Layout, Mode, Reply,
-    Request, RestoreFault, SendFault, Sent, SentFault, ServeFault, Served, Service, ServicePass,
-    SettingsFault, Stand, Value,
+    Request, RestoreFault, SendFault, Sent, SentFault, ServeFault, Served, ServerId, Service,
+    ServicePass, SettingsFault, Stand, Value,
 };
 use std::error::Error;
 
@@ -12,7 +15,10 @@ fn service(bounds: &[&str], servers: u16) -> Service {
     let layout = Layout::new(bounds).unwrap();
     let service = Service::builder(layout).servers(servers).build().unwrap();
     for shard in 0..bounds.len() as u16 {
-        service.control().assign(shard, 1).unwrap();
+        service
+            .control()
+            .assign(shard_id(shard), server_id(1))
+            .unwrap();
     }
     service
 }
@@ -26,7 +32,7 @@ fn executed(pass: &mut ServicePass, request: &Request<'_>) -> Reply {
     }
 }
 
-fn forwarded(pass: &mut ServicePass, envelope: Envelope) -> (u16, Envelope) {
+fn forwarded(pass: &mut ServicePass, envelope: Envelope) -> (ServerId, Envelope) {
     match pass.serve(envelope) {
         Ok(Served::Forward(to, envelope)) => (to, envelope),
         other => panic!("not forwarded: {other:?}"),
@@ -35,7 +41,7 @@ fn forwarded(pass: &mut ServicePass, envelope: Envelope) -> (u16, Envelope) {
 
 #[test]
 fn the_owner_executes_each_kind_of_request() {
-    let mut owner = service(&["", "n"], 1).pass(1).unwrap();
+    let mut owner = service(&["", "n"], 1).pass(server_id(1)).unwrap();
     let replies = [
         Request::Put(b"name", b"durk"),
         Request::Append(b"name", b"enzo"),
@@ -70,11 +76,13 @@ fn the_owner_executes_each_kind_of_request() {
 #[test]
 fn places_are_counted_by_shard() {
     let service = service(&["", "n"], 1);
-    let mut owner = service.pass(1).unwrap();
+    let mut owner = service.pass(server_id(1)).unwrap();
     let places = ["a", "z", "b", "y"].map(|key| {
         let envelope = owner.envelope(9, &Request::Get(key.as_bytes())).unwrap();
         match owner.serve(envelope) {
-            Ok(Served::Answered(answer)) => (answer.number(), answer.server(), answer.place()),
+            Ok(Served::Answered(answer)) => {
+                (answer.number(), answer.server().get(), answer.place())
+            }
             other => panic!("not answered: {other:?}"),
         }
     });
@@ -85,14 +93,19 @@ fn places_are_counted_by_shard() {
 fn a_migration_forwards_and_refuses_nobody() {
     let service = service(&[""], 3);
     let control = service.control();
-    let (mut old, mut new) = (service.pass(1).unwrap(), service.pass(2).unwrap());
+    let (mut old, mut new) = (
+        service.pass(server_id(1)).unwrap(),
+        service.pass(server_id(2)).unwrap(),
+    );
     let one = Request::Add(b"visits", 1);
-    control.prepare_add_shard(0, 2).unwrap();
+    control
+        .prepare_add_shard(shard_id(0), server_id(2))
+        .unwrap();
     assert_eq!(executed(&mut old, &one), Reply::Value(Value::Count(1)));
-    control.prepare_drop_shard(0).unwrap();
+    control.prepare_drop_shard(shard_id(0)).unwrap();
     let sent = old.envelope(0, &one).unwrap();
     let (to, envelope) = forwarded(&mut old, sent);
-    assert_eq!(to, 2);
+    assert_eq!(to, server_id(2));
     assert!(matches!(new.serve(envelope), Ok(Served::Answered(_))));
     let sent = new.envelope(0, &one).unwrap();
     let refused = new.serve(sent).unwrap_err();
@@ -100,11 +113,11 @@ fn a_migration_forwards_and_refuses_nobody() {
         refused.fault,
         ServeFault::Admit(AdmitFault::NotYet(_))
     ));
-    control.add_shard(0).unwrap();
+    control.add_shard(shard_id(0)).unwrap();
     let (to, envelope) = forwarded(&mut old, refused.envelope);
-    assert_eq!(to, 2);
+    assert_eq!(to, server_id(2));
     assert!(matches!(new.serve(envelope), Ok(Served::Answered(_))));
-    control.drop_shard(0).unwrap();
+    control.drop_shard(shard_id(0)).unwrap();
     assert_eq!(executed(&mut new, &one), Reply::Value(Value::Count(4)));
 }
 
@@ -112,18 +125,22 @@ fn a_migration_forwards_and_refuses_nobody() {
 fn an_envelope_is_forwarded_four_times_at_most() {
     let service = service(&[""], 3);
     let control = service.control();
-    let mut passes = [1, 2].map(|server| service.pass(server).unwrap());
+    let mut passes = [1, 2].map(|server| service.pass(server_id(server)).unwrap());
     let mut envelope = passes[0].envelope(0, &Request::Get(b"key")).unwrap();
     for hop in 0..4 {
         let (from, to) = (hop % 2, (hop + 1) % 2);
-        control.prepare_add_shard(0, to as u16 + 1).unwrap();
-        control.prepare_drop_shard(0).unwrap();
+        control
+            .prepare_add_shard(shard_id(0), passes[to].server())
+            .unwrap();
+        control.prepare_drop_shard(shard_id(0)).unwrap();
         envelope = forwarded(&mut passes[from], envelope).1;
-        control.add_shard(0).unwrap();
-        control.drop_shard(0).unwrap();
+        control.add_shard(shard_id(0)).unwrap();
+        control.drop_shard(shard_id(0)).unwrap();
     }
-    control.prepare_add_shard(0, 2).unwrap();
-    control.prepare_drop_shard(0).unwrap();
+    control
+        .prepare_add_shard(shard_id(0), server_id(2))
+        .unwrap();
+    control.prepare_drop_shard(shard_id(0)).unwrap();
     let refused = passes[0].serve(envelope).unwrap_err();
     assert_eq!(refused.fault, ServeFault::TooManyHops);
 }
@@ -132,21 +149,21 @@ fn an_envelope_is_forwarded_four_times_at_most() {
 fn a_full_shard_wants_a_checkpoint() {
     let layout = Layout::new([""]).unwrap();
     let service = Service::builder(layout).kept(2).build().unwrap();
-    let mut owner = service.pass(1).unwrap();
+    let mut owner = service.pass(server_id(1)).unwrap();
     assert!(matches!(
-        owner.checkpoint(0),
+        owner.checkpoint(shard_id(0)),
         Err(CheckpointFault::Admit(AdmitFault::Vacant(_)))
     ));
-    service.control().assign(0, 1).unwrap();
+    service.control().assign(shard_id(0), server_id(1)).unwrap();
     executed(&mut owner, &Request::Put(b"a", b"1"));
     executed(&mut owner, &Request::Put(b"b", b"2"));
     let third = owner.envelope(3, &Request::Get(b"a")).unwrap();
-    let before = owner.look(0).unwrap().generation;
+    let before = owner.look(shard_id(0)).unwrap().generation;
     let refused = owner.serve(third).unwrap_err();
     assert_eq!(refused.fault, ServeFault::KeptFull);
-    assert_eq!(owner.look(0).unwrap().generation, before + 2);
-    let generation = owner.checkpoint(0).unwrap();
-    assert_eq!(owner.look(0).unwrap().generation, generation);
+    assert_eq!(owner.look(shard_id(0)).unwrap().generation, before + 2);
+    let generation = owner.checkpoint(shard_id(0)).unwrap();
+    assert_eq!(owner.look(shard_id(0)).unwrap().generation, generation);
     let Ok(Served::Answered(answer)) = owner.serve(refused.envelope) else {
         panic!("not answered after a checkpoint");
     };
@@ -157,19 +174,25 @@ fn a_full_shard_wants_a_checkpoint() {
 #[test]
 fn answers_tell_what_was_seen() {
     let service = service(&[""], 2);
-    let (mut owner, mut client) = (service.pass(1).unwrap(), service.pass(2).unwrap());
+    let (mut owner, mut client) = (
+        service.pass(server_id(1)).unwrap(),
+        service.pass(server_id(2)).unwrap(),
+    );
     let sent = client.envelope(1, &Request::Add(b"visits", 1)).unwrap();
     let Ok(Served::Answered(answer)) = owner.serve(sent) else {
         panic!("the owner answers");
     };
     client.hear(answer).unwrap();
-    assert!(client.look(0).unwrap().generation >= 3);
+    assert!(client.look(shard_id(0)).unwrap().generation >= 3);
 }
 
 #[test]
 fn what_is_refused() {
     let (one, other) = (service(&[""], 1), service(&[""], 1));
-    let (mut pass, mut stranger) = (one.pass(1).unwrap(), other.pass(1).unwrap());
+    let (mut pass, mut stranger) = (
+        one.pass(server_id(1)).unwrap(),
+        other.pass(server_id(1)).unwrap(),
+    );
     assert_eq!(
         pass.envelope(0, &Request::Get(b"")).unwrap_err(),
         SendFault::EmptyKey
@@ -203,12 +226,18 @@ fn eight_threads_and_a_migrating_shard() {
             })
             .collect();
         for round in 0..200 {
-            control.migrate(0, round % 8 + 1).ok();
+            control.migrate(shard_id(0), server_id(round % 8 + 1)).ok();
         }
         threads.into_iter().map(|it| it.join().unwrap()).sum()
     });
-    let owner = service.pass(1).unwrap().look(0).unwrap().owner().unwrap();
-    let mut owner = service.pass(owner).unwrap();
+    let owner = service
+        .pass(server_id(1))
+        .unwrap()
+        .look(shard_id(0))
+        .unwrap()
+        .owner()
+        .unwrap();
+    let mut owner = service.pass(server_id(owner)).unwrap();
     assert_eq!(
         executed(&mut owner, &Request::Add(b"visits", 0)),
         Reply::Value(Value::Count(done))
@@ -217,7 +246,7 @@ fn eight_threads_and_a_migrating_shard() {
 
 /// Returns how many additions this server executed.
 fn counted(service: &Service, server: u16, rounds: i64) -> i64 {
-    let mut pass = service.pass(server).unwrap();
+    let mut pass = service.pass(server_id(server)).unwrap();
     let mut done = 0;
     for _ in 0..rounds {
         let sent = pass.envelope(0, &Request::Add(b"visits", 1)).unwrap();
@@ -233,20 +262,29 @@ fn settings_open_a_board() {
     let service = Service::by_settings(SETTINGS).unwrap();
     assert_eq!(
         (service.layout().count(), service.layout().shard_of("z")),
-        (2, 1)
+        (2, shard_id(1))
     );
     let control = service.control();
-    assert_eq!(control.assign(0, 2), Err(ChangeFault::UnknownServer));
-    control.assign(0, 1).unwrap();
-    assert_eq!(control.assign(1, 1), Err(ChangeFault::NoCapacity));
-    control.assign(1, 7).unwrap();
-    let mut owner = service.pass(1).unwrap();
+    assert_eq!(
+        control.assign(shard_id(0), server_id(2)),
+        Err(ChangeFault::UnknownServer)
+    );
+    control.assign(shard_id(0), server_id(1)).unwrap();
+    assert_eq!(
+        control.assign(shard_id(1), server_id(1)),
+        Err(ChangeFault::NoCapacity)
+    );
+    control.assign(shard_id(1), server_id(7)).unwrap();
+    let mut owner = service.pass(server_id(1)).unwrap();
     executed(&mut owner, &Request::Add(b"a", 1));
     let full = owner.envelope(0, &Request::Add(b"a", 1)).unwrap();
     let refused = owner.serve(full).unwrap_err();
     assert_eq!(refused.fault, ServeFault::KeptFull);
-    control.ask(7).unwrap();
-    assert!(control.approve(7).is_err(), "its domain may not be down");
+    control.ask(server_id(7)).unwrap();
+    assert!(
+        control.approve(server_id(7)).is_err(),
+        "its domain may not be down"
+    );
 }
 
 #[test]
@@ -255,18 +293,27 @@ fn settings_open_a_board_of_own_bodies() {
     let (board, layout) = Board::by_settings(SETTINGS, bodies).unwrap();
     assert_eq!(
         (board.count(), layout.count(), layout.shard_of("z")),
-        (2, 2, 1)
+        (2, 2, shard_id(1))
     );
     let control = board.control();
-    assert_eq!(control.assign(0, 2), Err(ChangeFault::UnknownServer));
-    control.assign(0, 1).unwrap();
-    assert_eq!(control.assign(1, 1), Err(ChangeFault::NoCapacity));
-    control.assign(1, 7).unwrap();
-    let mut pass = board.pass(7).unwrap();
-    assert_eq!(*pass.admit(1, Mode::Direct).unwrap(), "two");
-    assert!(pass.admit(0, Mode::Direct).is_err());
-    control.ask(7).unwrap();
-    assert!(control.approve(7).is_err(), "its domain may not be down");
+    assert_eq!(
+        control.assign(shard_id(0), server_id(2)),
+        Err(ChangeFault::UnknownServer)
+    );
+    control.assign(shard_id(0), server_id(1)).unwrap();
+    assert_eq!(
+        control.assign(shard_id(1), server_id(1)),
+        Err(ChangeFault::NoCapacity)
+    );
+    control.assign(shard_id(1), server_id(7)).unwrap();
+    let mut pass = board.pass(server_id(7)).unwrap();
+    assert_eq!(*pass.admit(shard_id(1), Mode::Direct).unwrap(), "two");
+    assert!(pass.admit(shard_id(0), Mode::Direct).is_err());
+    control.ask(server_id(7)).unwrap();
+    assert!(
+        control.approve(server_id(7)).is_err(),
+        "its domain may not be down"
+    );
     for (bodies, line, fault) in [
         (1, SETTINGS.to_string(), SettingsFault::BadCount),
         (3, SETTINGS.to_string(), SettingsFault::BadCount),
@@ -310,12 +357,12 @@ fn stands_are_reached_anew() {
     ];
     let layout = Layout::new(["", "b", "c", "d", "e", "f"]).unwrap();
     let service = Service::builder(layout).servers(3).build().unwrap();
-    let (control, mut watch) = (service.control(), service.pass(1).unwrap());
+    let (control, mut watch) = (service.control(), service.pass(server_id(1)).unwrap());
     for (shard, stand) in stands.into_iter().enumerate() {
-        let shard = shard as u16;
-        if shard % 2 == 0 {
+        let shard = shard_id(shard as u16);
+        if shard.get() % 2 == 0 {
             if let Some(first) = stand.first_owner() {
-                control.assign(shard, first).unwrap();
+                control.assign(shard, server_id(first)).unwrap();
             }
         }
         control.restore(shard, stand).unwrap();
@@ -325,17 +372,25 @@ fn stands_are_reached_anew() {
     }
     // A board's servers don't have to begin at 1.
     let others = Service::by_settings(SETTINGS.replace("\"id\":1", "\"id\":5")).unwrap();
-    others.control().restore(0, Stand::Serving(7)).unwrap();
+    others
+        .control()
+        .restore(shard_id(0), Stand::Serving(7))
+        .unwrap();
     assert_eq!(
-        others.pass(7).unwrap().look(0).unwrap().stand,
+        others
+            .pass(server_id(7))
+            .unwrap()
+            .look(shard_id(0))
+            .unwrap()
+            .stand,
         Stand::Serving(7)
     );
     assert_eq!(
-        control.restore(1, Stand::Serving(2)),
+        control.restore(shard_id(1), Stand::Serving(2)),
         Err(RestoreFault::Change(ChangeFault::WrongPhase))
     );
     assert_eq!(
-        control.restore(9, Stand::Serving(2)),
+        control.restore(shard_id(9), Stand::Serving(2)),
         Err(RestoreFault::Change(ChangeFault::UnknownShard))
     );
 }
@@ -343,7 +398,7 @@ fn stands_are_reached_anew() {
 #[test]
 fn faults_tell_their_sources() {
     let service = service(&[""], 2);
-    let mut other = service.pass(2).unwrap();
+    let mut other = service.pass(server_id(2)).unwrap();
     let sent = other.envelope(0, &Request::Get(b"a")).unwrap();
     let refused = other.serve(sent).unwrap_err();
     let fault = refused.source().unwrap();
@@ -354,9 +409,12 @@ fn faults_tell_their_sources() {
         Some(AdmitFault::NotExecutor(_))
     ));
     assert!(admission.source().is_none());
-    let unmade = other.checkpoint(0).unwrap_err();
+    let unmade = other.checkpoint(shard_id(0)).unwrap_err();
     assert!(unmade.source().unwrap().is::<AdmitFault>());
-    let unreached = service.control().restore(9, Stand::Vacant).unwrap_err();
+    let unreached = service
+        .control()
+        .restore(shard_id(9), Stand::Vacant)
+        .unwrap_err();
     assert!(unreached.source().unwrap().is::<ChangeFault>());
     assert!(ServeFault::KeptFull.source().is_none());
 }
@@ -365,28 +423,33 @@ fn faults_tell_their_sources() {
 fn an_envelope_tells_how_it_came() {
     let service = service(&[""], 2);
     let control = service.control();
-    control.prepare_add_shard(0, 2).unwrap();
-    control.prepare_drop_shard(0).unwrap();
-    let mut owner = service.pass(1).unwrap();
+    control
+        .prepare_add_shard(shard_id(0), server_id(2))
+        .unwrap();
+    control.prepare_drop_shard(shard_id(0)).unwrap();
+    let mut owner = service.pass(server_id(1)).unwrap();
     let mut sent = owner.envelope(0, &Request::Get(b"a")).unwrap();
     assert_eq!((sent.mode(), sent.hops()), (Mode::Direct, 0));
     let (to, mut sent) = forwarded(&mut owner, sent);
-    assert_eq!((to, sent.mode(), sent.hops()), (2, Mode::Forwarded(1), 1));
+    assert_eq!(
+        (to, sent.mode(), sent.hops()),
+        (server_id(2), Mode::Forwarded(server_id(1)), 1)
+    );
 }
 
 #[test]
 fn an_envelope_travels_as_bytes() {
     let service = service(&["", "n"], 2);
-    let mut owner = service.pass(1).unwrap();
+    let mut owner = service.pass(server_id(1)).unwrap();
     let request = Request::Add(b"s", 1);
     for (mode, hops) in [
         (Mode::Direct, 0),
-        (Mode::Forwarded(9), 1),
-        (Mode::Forwarded(4_095), 4),
+        (Mode::Forwarded(server_id(9)), 1),
+        (Mode::Forwarded(server_id(4_095)), 4),
     ] {
         let sent = Sent {
             number: u64::MAX - 5,
-            shard: 1,
+            shard: shard_id(1),
             mode,
             hops,
         };
@@ -401,27 +464,16 @@ fn an_envelope_travels_as_bytes() {
     }
     for (mode, hops) in [
         (Mode::Direct, 1),
-        (Mode::Forwarded(9), 0),
-        (Mode::Forwarded(9), 5),
-        (Mode::Forwarded(0), 1),
+        (Mode::Forwarded(server_id(9)), 0),
+        (Mode::Forwarded(server_id(9)), 5),
     ] {
         let sent = Sent {
             number: 0,
-            shard: 0,
+            shard: shard_id(0),
             mode,
             hops,
         };
         assert_eq!(Sent::from_bytes(&sent.to_bytes()), Err(SentFault::Hops));
-        let refused = owner.received(&sent, &request).unwrap_err();
-        assert_eq!(refused, SendFault::NotSent);
-    }
-    for mode in [Mode::Forwarded(0), Mode::Forwarded(4_096)] {
-        let sent = Sent {
-            number: 0,
-            shard: 0,
-            mode,
-            hops: 0,
-        };
         let refused = owner.received(&sent, &request).unwrap_err();
         assert_eq!(refused, SendFault::NotSent);
     }

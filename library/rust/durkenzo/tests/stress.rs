@@ -1,5 +1,8 @@
 //! Runs eight threads, and a control that migrates shards. Counters in the bodies would race if two were admitted at
 //! once; at the end they must equal the number of admissions.
+mod common;
+
+use common::{server_id, shard_id};
 use durkenzo::{Board, ChangeFault, Mode};
 use std::sync::atomic::{AtomicBool, Ordering};
 use std::time::{Duration, Instant};
@@ -26,11 +29,11 @@ fn random(state: &mut u64) -> u16 {
 
 fn serve(board: &Board<Body>, thread: u64, stop: &AtomicBool) -> u64 {
     let mut pass = board
-        .pass((thread % u64::from(SERVERS)) as u16 + 1)
+        .pass(server_id((thread % u64::from(SERVERS)) as u16 + 1))
         .unwrap();
     let (mut state, mut done) = ((thread + 1) * 88_172_645_463_325_252, 0);
     while !stop.load(Ordering::Relaxed) {
-        if let Ok(mut body) = pass.admit(random(&mut state) % SHARDS, Mode::Direct) {
+        if let Ok(mut body) = pass.admit(shard_id(random(&mut state) % SHARDS), Mode::Direct) {
             body.first += 1;
             if body.first % 10_000 == 0 {
                 let name = format!("{thread}:{}", body.first);
@@ -47,8 +50,8 @@ fn migrate(board: &Board<Body>, time: Duration) -> u64 {
     let (control, start, mut state, mut moved) = (board.control(), Instant::now(), 99, 0);
     while start.elapsed() < time || (moved == 0 && start.elapsed() < LATEST) {
         let (shard, server) = (
-            random(&mut state) % SHARDS,
-            random(&mut state) % SERVERS + 1,
+            shard_id(random(&mut state) % SHARDS),
+            server_id(random(&mut state) % SERVERS + 1),
         );
         match control.migrate(shard, server) {
             Ok(()) => moved += 1,
@@ -65,7 +68,10 @@ fn admissions_are_as_many_as_racy_counters() {
     let bodies = (0..SHARDS).map(|_| Body::default());
     let board = Board::builder().servers(SERVERS).build(bodies).unwrap();
     for shard in 0..SHARDS {
-        board.control().assign(shard, shard % SERVERS + 1).unwrap();
+        board
+            .control()
+            .assign(shard_id(shard), server_id(shard % SERVERS + 1))
+            .unwrap();
     }
     let stop = AtomicBool::new(false);
     let (done, moved) = std::thread::scope(|scope| {

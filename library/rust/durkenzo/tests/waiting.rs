@@ -1,4 +1,7 @@
 //! Callers that wait for a shard: parked threads, and tasks that are polled by hand.
+mod common;
+
+use common::{server_id, shard_id};
 use durkenzo::word::Change;
 use durkenzo::{AdmitFault, Board, ChangeFault, Mode, Pass, Permit, Stand};
 use std::future::Future;
@@ -59,52 +62,72 @@ fn board(shards: u16) -> Board<u64> {
         .servers(2)
         .build((0..shards).map(|_| 0))
         .unwrap();
-    for shard in 0..shards {
-        board.control().assign(shard, 1).unwrap();
+    for shard in board.shards() {
+        board.control().assign(shard, server_id(1)).unwrap();
     }
     board
 }
 
 fn passes<const COUNT: usize>(board: &Board<u64>) -> [Pass<u64>; COUNT] {
-    std::array::from_fn(|_| board.pass(1).unwrap())
+    std::array::from_fn(|_| board.pass(server_id(1)).unwrap())
 }
 
 #[test]
 fn a_limited_wait_ends_with_its_time() {
     let board = board(2);
     let [mut one, mut two] = passes(&board);
-    let held = one.admit(0, Mode::Direct).unwrap();
+    let held = one.admit(shard_id(0), Mode::Direct).unwrap();
     let is_held = |fault| matches!(fault, AdmitFault::Admitted(read) if read.admitted);
-    assert!(is_held(two.admit_for(0, Mode::Direct, SHORT).unwrap_err()));
-    let with = two.with_for(0, Mode::Direct, SHORT, |_| ());
+    assert!(is_held(
+        two.admit_for(shard_id(0), Mode::Direct, SHORT).unwrap_err()
+    ));
+    let with = two.with_for(shard_id(0), Mode::Direct, SHORT, |_| ());
     assert!(is_held(with.unwrap_err()));
-    assert!(is_held(two.try_with(0, Mode::Direct, |_| ()).unwrap_err()));
+    assert!(is_held(
+        two.try_with(shard_id(0), Mode::Direct, |_| ()).unwrap_err()
+    ));
     let control = board.control();
     let is_busy = |made| matches!(made, Err(ChangeFault::Busy(_)));
-    assert!(is_busy(control.migrate_for(0, 2, SHORT)));
-    assert!(is_busy(control.try_migrate(0, 2)));
-    assert!(is_busy(control.change_for(0, Change::Pause, SHORT)));
+    assert!(is_busy(control.migrate_for(
+        shard_id(0),
+        server_id(2),
+        SHORT
+    )));
+    assert!(is_busy(control.try_migrate(shard_id(0), server_id(2))));
+    assert!(is_busy(control.change_for(
+        shard_id(0),
+        Change::Pause,
+        SHORT
+    )));
     // Another shard is free.
-    drop(two.admit_for(1, Mode::Direct, SHORT).unwrap());
+    drop(two.admit_for(shard_id(1), Mode::Direct, SHORT).unwrap());
     drop(held);
-    assert_eq!(two.with_for(0, Mode::Direct, LONG, |body| **body), Ok(0));
-    assert_eq!(two.try_with(0, Mode::Direct, |body| **body), Ok(0));
-    control.try_migrate(0, 2).unwrap();
-    control.migrate_for(0, 1, LONG).unwrap();
-    assert_eq!(two.look(0).unwrap().stand, Stand::Serving(1));
+    assert_eq!(
+        two.with_for(shard_id(0), Mode::Direct, LONG, |body| **body),
+        Ok(0)
+    );
+    assert_eq!(
+        two.try_with(shard_id(0), Mode::Direct, |body| **body),
+        Ok(0)
+    );
+    control.try_migrate(shard_id(0), server_id(2)).unwrap();
+    control
+        .migrate_for(shard_id(0), server_id(1), LONG)
+        .unwrap();
+    assert_eq!(two.look(shard_id(0)).unwrap().stand, Stand::Serving(1));
 }
 
 #[test]
 fn a_wait_without_hope_is_refused_at_once() {
     let board = board(1);
-    let mut other = board.pass(2).unwrap();
-    let refused = other.admit_blocking(0, Mode::Direct);
+    let mut other = board.pass(server_id(2)).unwrap();
+    let refused = other.admit_blocking(shard_id(0), Mode::Direct);
     assert!(matches!(refused, Err(AdmitFault::NotExecutor(_))));
     drop(refused);
-    let refused = block_on(other.admit_async(9, Mode::Direct));
+    let refused = block_on(other.admit_async(shard_id(9), Mode::Direct));
     assert!(matches!(refused, Err(AdmitFault::UnknownShard)));
     drop(refused);
-    let moved = block_on(board.control().migrate_async(0, 1));
+    let moved = block_on(board.control().migrate_async(shard_id(0), server_id(1)));
     assert_eq!(moved, Err(ChangeFault::SameServer));
 }
 
@@ -113,9 +136,9 @@ fn the_end_of_an_admission_wakes_the_first_who_waits() {
     let board = board(1);
     let [mut one, mut two, mut three] = passes(&board);
     let [first, second] = [(); 2].map(|()| Arc::new(Woken::default()));
-    let held = one.admit(0, Mode::Direct).unwrap();
-    let mut early = pin!(two.admit_async(0, Mode::Direct));
-    let mut late = pin!(three.admit_async(0, Mode::Direct));
+    let held = one.admit(shard_id(0), Mode::Direct).unwrap();
+    let mut early = pin!(two.admit_async(shard_id(0), Mode::Direct));
+    let mut late = pin!(three.admit_async(shard_id(0), Mode::Direct));
     assert!(poll(early.as_mut(), &first).is_pending());
     assert!(poll(late.as_mut(), &second).is_pending());
     assert_eq!((first.count(), second.count()), (0, 0));
@@ -136,9 +159,9 @@ fn who_gives_up_after_it_was_woken_wakes_the_next() {
     let board = board(1);
     let [mut one, mut two, mut three] = passes(&board);
     let [first, second] = [(); 2].map(|()| Arc::new(Woken::default()));
-    let held = one.admit(0, Mode::Direct).unwrap();
-    let mut early = Box::pin(two.admit_async(0, Mode::Direct));
-    let mut late = pin!(three.admit_async(0, Mode::Direct));
+    let held = one.admit(shard_id(0), Mode::Direct).unwrap();
+    let mut early = Box::pin(two.admit_async(shard_id(0), Mode::Direct));
+    let mut late = pin!(three.admit_async(shard_id(0), Mode::Direct));
     assert!(poll(early.as_mut(), &first).is_pending());
     assert!(poll(late.as_mut(), &second).is_pending());
     drop(held);
@@ -152,9 +175,9 @@ fn who_gives_up_earlier_is_not_woken() {
     let board = board(1);
     let [mut one, mut two, mut three] = passes(&board);
     let [first, second] = [(); 2].map(|()| Arc::new(Woken::default()));
-    let held = one.admit(0, Mode::Direct).unwrap();
-    let mut early = Box::pin(two.admit_async(0, Mode::Direct));
-    let mut late = pin!(three.admit_async(0, Mode::Direct));
+    let held = one.admit(shard_id(0), Mode::Direct).unwrap();
+    let mut early = Box::pin(two.admit_async(shard_id(0), Mode::Direct));
+    let mut late = pin!(three.admit_async(shard_id(0), Mode::Direct));
     assert!(poll(early.as_mut(), &first).is_pending());
     assert!(poll(late.as_mut(), &second).is_pending());
     drop(early);
@@ -169,9 +192,9 @@ fn a_change_wakes_who_waits_behind_it() {
     let control = board.control();
     let [mut one, mut two] = passes(&board);
     let [first, second] = [(); 2].map(|()| Arc::new(Woken::default()));
-    let held = one.admit(0, Mode::Direct).unwrap();
-    let mut paused = pin!(control.change_async(0, Change::Pause));
-    let mut late = pin!(two.admit_async(0, Mode::Direct));
+    let held = one.admit(shard_id(0), Mode::Direct).unwrap();
+    let mut paused = pin!(control.change_async(shard_id(0), Change::Pause));
+    let mut late = pin!(two.admit_async(shard_id(0), Mode::Direct));
     assert!(poll(paused.as_mut(), &first).is_pending());
     assert!(poll(late.as_mut(), &second).is_pending());
     drop(held);
@@ -187,8 +210,8 @@ fn the_end_of_a_pass_ends_the_wait_for_its_forgotten_permit() {
     let board = board(1);
     let [mut one, mut two] = passes(&board);
     let task = Arc::new(Woken::default());
-    std::mem::forget(one.admit(0, Mode::Direct).unwrap());
-    let mut late = pin!(two.admit_async(0, Mode::Direct));
+    std::mem::forget(one.admit(shard_id(0), Mode::Direct).unwrap());
+    let mut late = pin!(two.admit_async(shard_id(0), Mode::Direct));
     assert!(poll(late.as_mut(), &task).is_pending());
     drop(one);
     assert_eq!(task.count(), 1);
@@ -201,13 +224,13 @@ fn a_migration_waits_without_a_thread() {
     let control = board.control();
     let [mut one] = passes(&board);
     let task = Arc::new(Woken::default());
-    let held = one.admit(0, Mode::Direct).unwrap();
-    let mut moved = pin!(control.migrate_async(0, 2));
+    let held = one.admit(shard_id(0), Mode::Direct).unwrap();
+    let mut moved = pin!(control.migrate_async(shard_id(0), server_id(2)));
     assert!(poll(moved.as_mut(), &task).is_pending());
     drop(held);
     assert_eq!(task.count(), 1);
     assert_eq!(poll(moved, &task), Poll::Ready(Ok(())));
-    assert_eq!(one.look(0).unwrap().stand, Stand::Serving(2));
+    assert_eq!(one.look(shard_id(0)).unwrap().stand, Stand::Serving(2));
 }
 
 #[test]
@@ -215,9 +238,9 @@ fn futures_may_go_to_other_threads() {
     fn is_send<T: Send>(_: &T) {}
     let board = board(1);
     let (control, [mut pass]) = (board.control(), passes(&board));
-    is_send(&control.migrate_async(0, 2));
-    is_send(&control.change_async(0, Change::Pause));
-    is_send(&pass.admit_async(0, Mode::Direct));
+    is_send(&control.migrate_async(shard_id(0), server_id(2)));
+    is_send(&control.change_async(shard_id(0), Change::Pause));
+    is_send(&pass.admit_async(shard_id(0), Mode::Direct));
 }
 
 /// Threads, tasks and a control all wait for one shard. If a wake were lost, the test wouldn't end.
@@ -234,8 +257,10 @@ fn no_wake_is_lost() {
         let pauses = scope.spawn(move || {
             let control = board.control();
             while !is_done.load(Ordering::Relaxed) {
-                control.change_for(0, Change::Pause, LONG).unwrap();
-                block_on(control.change_async(0, Change::Resume)).unwrap();
+                control
+                    .change_for(shard_id(0), Change::Pause, LONG)
+                    .unwrap();
+                block_on(control.change_async(shard_id(0), Change::Resume)).unwrap();
             }
         });
         let counted = counts.into_iter().map(|it| it.join().unwrap()).sum();
@@ -253,10 +278,10 @@ fn counted(board: &Board<u64>, at: u64, rounds: u64) -> u64 {
     let mut done = 0;
     while done < rounds {
         let counted = match at % 3 {
-            0 => pass.with(0, Mode::Direct, |body| **body += 1),
-            1 => pass.with_for(0, Mode::Direct, LONG, |body| **body += 1),
+            0 => pass.with(shard_id(0), Mode::Direct, |body| **body += 1),
+            1 => pass.with_for(shard_id(0), Mode::Direct, LONG, |body| **body += 1),
             _ => block_on(async {
-                let mut body = pass.admit_async(0, Mode::Direct).await?;
+                let mut body = pass.admit_async(shard_id(0), Mode::Direct).await?;
                 *body += 1;
                 thread::yield_now();
                 Ok(())
