@@ -61,6 +61,22 @@ impl AsyncRouter {
     ) -> Result<Answer, CallError> {
         self.routes.call(&self.tasks, (key, request), retry).await
     }
+
+    /// Sends the request to the shard with this number, and returns the answer of the service, as
+    /// [`Router::call_shard`] does.
+    ///
+    /// # Errors
+    ///
+    /// The same as for [`Router::call_shard`]. A call that is [`CallError::Unsure`] is never sent again.
+    pub async fn call_shard(
+        &self,
+        shard: u16,
+        request: &[u8],
+        retry: Retry,
+    ) -> Result<Answer, CallError> {
+        let call = (shard, request);
+        self.routes.call_shard(&self.tasks, call, retry).await
+    }
 }
 
 impl From<Router> for AsyncRouter {

@@ -119,7 +119,19 @@ impl CallRoutes {
         (key, request): (&[u8], &[u8]),
         retry: Retry,
     ) -> Result<Answer, CallError> {
-        let (shard, mut left) = (self.sharding.shard_of(key), retry.budget());
+        let call = (self.sharding.shard_of(key), request);
+        self.call_shard(environment, call, retry).await
+    }
+
+    /// Sends the request to the shard, and returns the answer, as [`Router::call_shard`](crate::Router::call_shard)
+    /// does.
+    pub(crate) async fn call_shard(
+        &self,
+        environment: &dyn Environment,
+        (shard, request): (u16, &[u8]),
+        retry: Retry,
+    ) -> Result<Answer, CallError> {
+        let mut left = retry.budget();
         let end = environment.end_of(left);
         loop {
             let why = match self

@@ -7,7 +7,8 @@ use crate::listener::Listener;
 use crate::settings::Settings;
 use crate::threads::{block_on, Threads};
 use crate::{
-    settings, Balance, Enter, JoinError, MeetError, Mode, Options, Safety, Service, Sharding,
+    settings, Balance, Destination, Enter, JoinError, MeetError, Mode, Options, Safety, Service,
+    Sharding,
 };
 use durkenzo_control::descriptors::raise_limit;
 use durkenzo_control::links::be_accepted;
@@ -126,9 +127,27 @@ impl<S: Service> Fleet<S> {
         &self.inner.sharding
     }
 
+    /// Returns the service of this process.
+    pub fn service(&self) -> &S {
+        &self.inner.service
+    }
+
     /// Returns the number of the server that this process runs as.
     pub fn server(&self) -> u16 {
         self.inner.member.server()
+    }
+
+    /// Returns the owner of the shard by the record that this process has read last, for a service that tells clients
+    /// where shards are. Returns nothing if nobody owns the shard, or if there is no such shard. Who may execute is told
+    /// only by [`Fleet::enter`].
+    pub fn owner(&self, shard: u16) -> Option<Destination> {
+        self.inner.owner(shard)
+    }
+
+    /// Returns whether this process has a lease now and isn't leaving, for a probe of readiness. Without a lease it
+    /// executes nothing.
+    pub fn is_leased(&self) -> bool {
+        !self.inner.is_stopping() && self.inner.member.lease_left().is_some()
     }
 
     /// Returns the address at which this process listens.

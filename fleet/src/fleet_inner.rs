@@ -230,6 +230,16 @@ impl<S: Service> FleetInner<S> {
         record.owner() != Some(self.server()) || known.handed >= record.generation
     }
 
+    /// Returns the owner of the shard by the record that was read last.
+    pub(crate) fn owner(&self, shard: u16) -> Option<Destination> {
+        let place = self.places.get(usize::from(shard))?;
+        let (owner, stood) = {
+            let known = place.known();
+            (known.record().owner()?, known.stood)
+        };
+        Some(self.destination(owner, stood))
+    }
+
     fn destination(&self, server: u16, revision: u64) -> Destination {
         let addresses = self.addresses_of(server);
         Destination {

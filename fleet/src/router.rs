@@ -125,6 +125,21 @@ impl Router {
         block_on(self.routes.call(&self.threads, call, retry))
     }
 
+    /// Sends the request to the shard with this number, and returns the answer of the service, as [`Router::call`] does.
+    ///
+    /// # Errors
+    ///
+    /// The same as for [`Router::call`]. If there is no such shard, the call is [`CallError::NotMade`].
+    pub fn call_shard(
+        &self,
+        shard: u16,
+        request: &[u8],
+        retry: Retry,
+    ) -> Result<Answer, CallError> {
+        let call = (shard, request);
+        block_on(self.routes.call_shard(&self.threads, call, retry))
+    }
+
     /// Gives the fleet's control a command, such as `["MIGRATE", "3", "2"]`, with or without `"SM"` before it. Sends it
     /// by way of the owner of the first shard that has one, waits at most this long, and returns the lines of the
     /// answer.

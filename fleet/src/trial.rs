@@ -862,6 +862,31 @@ fn a_call_of_a_paused_shard_ends_with_its_budget_and_fences_rise() {
 }
 
 #[test]
+fn a_client_may_name_the_shard_and_a_process_tells_its_owner_and_whether_it_has_a_lease() {
+    let trial = Trial::new(30, false, None);
+    let router = Router::watch(&*trial.store).unwrap();
+    let key = key_of(&router, 1);
+    let first = router.call_shard(1, &key, Retry::Until(PATIENCE)).unwrap();
+    let second = router.call(&key, &key, Retry::Until(PATIENCE)).unwrap();
+    assert_eq!(
+        [first.bytes, second.bytes],
+        [1_u64, 2].map(u64::to_be_bytes)
+    );
+    let unknown = router.call_shard(SHARDS, &key, Retry::Once(SOON));
+    assert!(matches!(unknown, Err(CallError::NotMade(_))), "{unknown:?}");
+    for fleet in &trial.fleets {
+        trial.wait_until("the owner is read", || {
+            let owner = fleet.owner(1);
+            owner.is_some_and(|it| Some(it.server) == trial.owner(1) && it.clients.is_some())
+        });
+        assert!(fleet.is_leased() && fleet.owner(SHARDS).is_none());
+    }
+    trial.fleets[1].leave();
+    assert!(!trial.fleets[1].is_leased());
+    trial.end();
+}
+
+#[test]
 fn a_process_says_where_calls_go_and_gives_permits_of_its_own_shards() {
     let trial = Trial::new(30, false, None);
     let owner = trial.owner(0).unwrap();
