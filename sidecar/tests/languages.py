@@ -11,6 +11,7 @@ import http.client
 import json
 import pathlib
 import shutil
+import signal
 import subprocess
 import sys
 import tempfile
@@ -65,11 +66,16 @@ class Pair:
         self.sidecar.begin()
         self.sidecar.wait(self.is_ready)
 
-    def drain(self):
-        """Makes the sidecar leave, as a hook before a stop does, and then ends the application."""
+    def drain(self, is_asked_twice):
+        """Makes the sidecar leave, as a hook before a stop does, and then ends the application. A supervisor may ask the
+        sidecar to end at the same time."""
         command = [self.program, "drain", "--clients", f"{HOST}:{self.port}"]
-        ran = subprocess.run(command, capture_output=True, text=True, timeout=PATIENCE)
-        assert ran.returncode == 0, f"drain of {self.server}: {ran.stderr}"
+        with subprocess.Popen(command, stderr=subprocess.PIPE, text=True) as run:
+            if is_asked_twice:
+                served.eventually(lambda: not self.is_ready(), PATIENCE)
+                self.sidecar.signal(signal.SIGTERM)
+            _, said = run.communicate(timeout=PATIENCE)
+        assert run.returncode == 0, f"drain of {self.server}: {said}"
         status = self.sidecar.run.wait(PATIENCE)
         assert status == 0, f"sidecar {self.server} ended with {status}: {self.sidecar.said()}"
         self.application.kill()
@@ -141,7 +147,7 @@ def rolled(pairs, clients):
     """Restarts each application and sidecar in turn, and waits until its shards have come home."""
     for pair in pairs:
         clients.serving.remove(pair)
-        pair.drain()
+        pair.drain(is_asked_twice=pair.server == SERVERS)
         pair.begin()
         served.eventually(pair.owns, PATIENCE)
         clients.serving.append(pair)

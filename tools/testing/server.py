@@ -75,12 +75,12 @@ def verdicts_of(lines):
 
 
 def said_by(script, python, program):
-    """Returns the findings of a script about the program; if it finds nothing, that is a failure."""
-    ran = runs.finished([python, FOLDER / "tests" / f"{script}.py", program], SCRIPT_SECONDS)
+    """Returns the findings of a script, at this path, about the program; if it finds nothing, that is a failure."""
+    ran = runs.finished([python, script, program], SCRIPT_SECONDS)
     found = list(verdicts_of(ran.output.decode(errors="replace").splitlines()))
     yield from found
     if not found or bool(ran.status) != any(it.reason for it in found):
-        yield Verdict(script, f"it ended with {ran.status}: {ran.complaint.decode(errors='replace')[-2000:]}")
+        yield Verdict(script.stem, f"it ended with {ran.status}: {ran.complaint.decode(errors='replace')[-2000:]}")
 
 
 def installed(room):
@@ -135,4 +135,4 @@ def passed(room):
         yield from installed(room)
     if not lacking():
         for script in (*SCRIPTS, *([CLUSTER] if shutil.which("etcd") else [])):
-            yield from said_by(script, python_with_redis(), program)
+            yield from said_by(FOLDER / "tests" / f"{script}.py", python_with_redis(), program)

@@ -14,6 +14,7 @@ from testing import (
     packed,
     prover,
     server,
+    sidecar,
     simulation,
     tests,
     unlinked,
@@ -197,6 +198,7 @@ def proved(say):
         say("no python3 has pip, setuptools and wheel: the library's wheel isn't tried")
     server.skipped(say)
     cluster.skipped(say)
+    sidecar.skipped(say)
     alone.skipped(say)
     packed.skipped(say)
     parts = [
@@ -206,6 +208,7 @@ def proved(say):
         Part("library", library.passed, goes_first=True),
         Part("server", server.passed, goes_first=True),
         Part("cluster of processes", cluster.passed, goes_first=True),
+        Part("sidecars", sidecar.passed),
         Part("simulation", simulation.passed),
         Part("packages", packed.passed("proved")),
         *faults(say),
