@@ -37,5 +37,12 @@ pub use sidecar::Sidecar;
 pub use sidecar_error::SidecarError;
 pub use sidecar_options::SidecarOptions;
 
+/// The version, which ends with `+unproved` if the library below isn't proved.
+pub const VERSION: &str = if durkenzo::IS_PROVED {
+    env!("CARGO_PKG_VERSION")
+} else {
+    concat!(env!("CARGO_PKG_VERSION"), "+unproved")
+};
+
 /// The most bytes of a call's request, and of its answer.
 pub const MOST: usize = 1_000_000;

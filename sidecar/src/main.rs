@@ -1,7 +1,7 @@
 //! The program `durkenzo-sidecar`: it serves beside an application, or makes such a process leave.
 use clap::{Parser, Subcommand};
-use durkenzo_sidecar::{drain, Sidecar, SidecarOptions};
-use std::io::{self, Write};
+use durkenzo_sidecar::{drain, Sidecar, SidecarError, SidecarOptions, VERSION};
+use std::io::{self, IsTerminal, Write};
 use std::process::ExitCode;
 use std::time::Duration;
 use tracing_subscriber::EnvFilter;
@@ -10,7 +10,7 @@ use tracing_subscriber::EnvFilter;
 #[derive(Parser)]
 #[command(
     name = "durkenzo-sidecar",
-    version,
+    version = VERSION,
     args_conflicts_with_subcommands = true
 )]
 struct Arguments {
@@ -45,6 +45,7 @@ fn main() -> ExitCode {
     tracing_subscriber::fmt()
         .with_env_filter(filter)
         .with_writer(io::stderr)
+        .with_ansi(io::stderr().is_terminal())
         .init();
     let arguments = Arguments::parse();
     let done = match arguments.command {
@@ -63,7 +64,7 @@ fn main() -> ExitCode {
 }
 
 /// Serves until the process has left the fleet.
-fn serve(options: SidecarOptions) -> Result<(), durkenzo_sidecar::SidecarError> {
+fn serve(options: SidecarOptions) -> Result<(), SidecarError> {
     let sidecar = Sidecar::begin(options)?;
     // If nobody reads it, the process serves all the same.
     let _ = writeln!(

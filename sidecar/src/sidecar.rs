@@ -57,6 +57,9 @@ impl Sidecar {
         if !clients.ip().is_loopback() && !options.fleet.open {
             return Err(SidecarError::Open(clients));
         }
+        if let Some(advertised) = options.clients_advertise.take() {
+            options.fleet.clients = Some(advertised);
+        }
         socket.set_nonblocking(true)?;
         let runtime = Builder::new_multi_thread().enable_all().build()?;
         let metrics = Arc::new(Metrics::new().map_err(io::Error::other)?);

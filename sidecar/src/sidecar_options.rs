@@ -19,6 +19,10 @@ pub struct SidecarOptions {
     )]
     pub application: ApplicationUrl,
 
+    /// Address at which clients reach this sidecar, if it is another one than --clients
+    #[arg(long, env = "DURKENZO_CLIENTS_ADVERTISE", value_name = "ADDRESS:PORT")]
+    pub clients_advertise: Option<String>,
+
     /// Longest time until the application first takes connections
     #[arg(
         long,

@@ -52,6 +52,8 @@ class Pair:
         options = {
             "etcd": etcd, "name": server, "servers": SERVERS, "shards": SHARDS,
             "application": f"http://{HOST}:{application}", "clients": f"{HOST}:{self.port}",
+            # However slow this machine is, a call that must be answered is.
+            "call-time": 1_000 * PATIENCE,
         }  # fmt: skip
         words = [program, *(word for name, value in options.items() for word in (f"--{name}", value))]
         self.sidecar = Process(f"sidecar-{server}", words, folder / f"sidecar-{server}.log")
@@ -168,6 +170,26 @@ def tried(program, words):
         return f"{moved} calls while shards moved, {sum(clients.answered) - moved} while all were restarted"
 
 
+def whose_process_is_killed(program, words):
+    """Kills an application with its sidecar, and waits until each page is answered again. Returns how long that took."""
+    with begun(program, words) as pairs:
+        served.eventually(lambda: sum(it.owns() for it in pairs) >= SHARDS, PATIENCE)
+        killed, *others = pairs
+        began = time.monotonic()
+        for it in (killed.application, killed.sidecar):
+            it.kill()
+        for page in range(SHARDS * SERVERS):
+            # Some call waits until the lease of the process has ended, and the shard is another server's.
+            called = [asked(it.port, "POST", f"/key/page-{page}") for it in others]
+            assert [it[0] for it in called] == [200, 200], called
+            assert [it[2] for it in called] == ["1", "2"], called
+        return f"{time.monotonic() - began:.1f} s for all pages"
+
+
+def a_service_in_node_goes_on_elsewhere_once_a_process_is_killed(program):
+    return whose_process_is_killed(program, ["node", EXAMPLES / "node/visits.js"])
+
+
 def a_service_in_node_moves_and_restarts_with_no_call_refused(program):
     return tried(program, ["node", EXAMPLES / "node/visits.js"])
 
@@ -182,9 +204,10 @@ def a_service_in_go_moves_and_restarts_with_no_call_refused(program):
 
 
 TESTS = {
-    "node": a_service_in_node_moves_and_restarts_with_no_call_refused,
-    "go": a_service_in_go_moves_and_restarts_with_no_call_refused,
+    a_service_in_node_moves_and_restarts_with_no_call_refused: "node",
+    a_service_in_node_goes_on_elsewhere_once_a_process_is_killed: "node",
+    a_service_in_go_moves_and_restarts_with_no_call_refused: "go",
 }
 
 if __name__ == "__main__":
-    served.main([test for language, test in TESTS.items() if shutil.which(language)])
+    served.main([test for test, language in TESTS.items() if shutil.which(language)])

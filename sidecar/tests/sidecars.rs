@@ -303,6 +303,23 @@ fn a_sidecar_that_is_drained_hands_its_shards_over_and_ends() {
 }
 
 #[test]
+fn sidecars_pass_calls_on_with_the_secret_of_their_fleet_and_tell_the_address_that_they_are_given()
+{
+    let file = std::env::temp_dir().join(format!("durkenzo-sidecar-{}", std::process::id()));
+    std::fs::write(&file, "word\n").unwrap();
+    let words = format!(
+        "--secret-file {} --clients-advertise name.of.it:7480",
+        file.display()
+    );
+    let fleet = Sidecars::begin(&words);
+    std::fs::remove_file(&file).unwrap();
+    fleet.migrate(1);
+    assert_eq!([fleet.count(), fleet.count()], [1, 2]);
+    let map = get(fleet.at(2), "/v1/map?wait=0").body;
+    assert!(map.contains("\"url\":\"http://name.of.it:7480\""), "{map}");
+}
+
+#[test]
 fn options_that_do_not_go_together_are_named() {
     let stub = Stub::begin();
     let begun = |options: SidecarOptions| {
