@@ -344,10 +344,10 @@ impl Clients {
         let changes = self.cluster.changes();
         let is_changed = std::mem::replace(&mut self.changes, changes) != changes;
         let (wait, now, connections) = (self.most_wait(), self.cluster.now(), &self.connections);
-        let is_due = |place: &usize| {
-            let connection = connections.get(*place);
-            is_changed || connection.is_none_or(|it| it.has_waited(wait, now))
-        };
+        // Another connection may have the place of one that was closed while it waited.
+        let since = |place: &usize| connections.get(*place).and_then(Connection::waits_since);
+        self.waiting.retain(|it| since(it).is_some());
+        let is_due = |place: &usize| is_changed || connections[*place].has_waited(wait, now);
         let (due, waiting) = self.waiting.drain(..).partition::<Vec<_>, _>(is_due);
         self.waiting = waiting;
         for place in due {
@@ -525,19 +525,30 @@ mod tests {
     use durkenzo_control::links::Secret;
     use mio::net::TcpStream;
     use mio::Poll;
-    use std::net::TcpListener;
+    use std::io::Write;
+    use std::net::{TcpListener, TcpStream as Client};
     use std::sync::mpsc::sync_channel;
+
+    const GONE: Readiness = Readiness {
+        is_readable: true,
+        is_half_closed: true,
+        has_left: true,
+    };
 
     /// Returns the connections of a thread to which clients must log in, and which has room for one that hasn't.
     fn begun() -> Clients {
-        let rule = Rule::Hash(1);
-        let keyspace = Keyspace::new(&rule).unwrap();
-        let mut configuration = Configuration::new(rule);
+        let mut configuration = Configuration::new(Rule::Hash(1));
         configuration.safety.password = Secret::of(b"a password");
+        begun_by(configuration, Some(2))
+    }
+
+    /// Returns the connections of a thread that has at most so many strangers, if there is a bound.
+    fn begun_by(configuration: Configuration, most_strangers: Option<usize>) -> Clients {
+        let keyspace = Keyspace::new(&configuration.rule).unwrap();
         let cluster = Arc::new(Cluster::in_memory(configuration).unwrap());
         let poll = Poll::new().unwrap();
         let inlet = Inlet::new(&poll, 1).unwrap();
-        let inlet = Arc::new(inlet.with_most_strangers(Some(2)));
+        let inlet = Arc::new(inlet.with_most_strangers(most_strangers));
         cluster.set_inlets([inlet.clone()].into());
         let admission = Admission::new(cluster.clone(), inlet.stats().clone()).unwrap();
         let executor = Executor::new(cluster.clone(), admission, keyspace);
@@ -546,32 +557,67 @@ mod tests {
         Clients::new(cluster, inlet, Box::new(sockets), executor, control)
     }
 
+    /// Brings the connection of a client to this thread. Returns the client.
+    fn bring(clients: &Clients) -> Client {
+        let listener = TcpListener::bind("127.0.0.1:0").unwrap();
+        let client = Client::connect(listener.local_addr().unwrap()).unwrap();
+        let (socket, from) = listener.accept().unwrap();
+        socket.set_nonblocking(true).unwrap();
+        let (socket, now) = (TcpStream::from_std(socket), clients.cluster.now());
+        assert!(clients.inlet.bring(socket, from, now).is_none());
+        client
+    }
+
+    #[test]
+    fn who_left_while_its_command_waited_waits_no_more_though_another_has_its_place() {
+        let mut configuration = Configuration::new(Rule::Hash(1));
+        configuration.wait = Duration::from_secs(60);
+        let mut clients = begun_by(configuration, None);
+        let mut others = Vec::new();
+        for _ in 0..3 {
+            let mut client = bring(&clients);
+            clients.begin_round();
+            // The one before leaves, and this one gets its place.
+            if !others.is_empty() {
+                clients.note(0, GONE);
+            }
+            clients.take_brought();
+            clients.end_round().unwrap();
+            assert_eq!(clients.connections.len(), 1);
+            assert_eq!(clients.patience(), Patience::Idle);
+            client.write_all(b"GET a\r\n").unwrap();
+            let is_readable = true;
+            while clients.patience() == Patience::Idle {
+                clients.begin_round();
+                let came = Readiness {
+                    is_readable,
+                    ..Readiness::default()
+                };
+                clients.note(0, came);
+                clients.end_round().unwrap();
+            }
+            // Nobody owns its shard.
+            assert_eq!(clients.patience(), Patience::Tick);
+            assert_eq!(clients.inlet.stats().waiting.get(), 1);
+            others.push(client);
+        }
+    }
+
     #[test]
     fn an_event_of_who_gave_way_is_not_that_of_the_next_one() {
-        let (mut clients, listener) = (begun(), TcpListener::bind("127.0.0.1:0").unwrap());
-        let address = listener.local_addr().unwrap();
-        let gone = Readiness {
-            is_readable: true,
-            is_half_closed: true,
-            has_left: true,
-        };
-        let mut others = Vec::new();
+        let (mut clients, mut others) = (begun(), Vec::new());
         for _ in 0..2 {
-            others.push(std::net::TcpStream::connect(address).unwrap());
-            let (socket, from) = listener.accept().unwrap();
-            socket.set_nonblocking(true).unwrap();
-            let (socket, now) = (TcpStream::from_std(socket), clients.cluster.now());
-            assert!(clients.inlet.bring(socket, from, now).is_none());
+            others.push(bring(&clients));
             clients.begin_round();
             clients.take_brought();
             // The first one has left, gives way in this round, and its event comes behind that.
-            clients.note(0, gone);
+            clients.note(0, GONE);
             assert!(!clients.connections[0].has_left());
             clients.end_round().unwrap();
         }
         assert_eq!(clients.connections.len(), 1);
         clients.begin_round();
-        clients.note(0, gone);
+        clients.note(0, GONE);
         assert!(clients.connections[0].has_left());
     }
 }
