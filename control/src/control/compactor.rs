@@ -4,6 +4,9 @@ use std::time::{Duration, Instant};
 
 /// How often the leader asks how much room the store's data takes.
 const CHECK: Duration = Duration::from_secs(1);
+/// The longest pause after a check in vain. Each such pause is twice as long as the one before, because the control
+/// answers nobody while it asks a store that hangs.
+const LAST_PAUSE: Duration = Duration::from_secs(60);
 /// How long after a compaction the next one is made at the earliest. Members discard the values meanwhile.
 const PAUSE: Duration = Duration::from_secs(30);
 /// How long other work of the control may put off a check.
@@ -21,8 +24,11 @@ const SCARCE_GROWTH: u64 = 1 << 20;
 /// earlier leader may not have finished: a leader doesn't know what was left before it led.
 pub(super) struct Compactor {
     store: Arc<dyn Store>,
-    /// When it asks next, and until when it compacts nothing.
-    due: Instant,
+    /// When it asks next. That isn't set until the first turn after a check, because the check may have taken long.
+    due: Option<Instant>,
+    /// The pause between a check and the next one.
+    pause: Duration,
+    /// Until when it compacts nothing.
     paused_until: Instant,
     /// How many bytes the last compaction left, by the sizes since then.
     left: u64,
@@ -35,7 +41,8 @@ impl Compactor {
     pub(super) fn new(store: Arc<dyn Store>, now: Instant) -> Compactor {
         Compactor {
             store,
-            due: now + CHECK,
+            due: Some(now + CHECK),
+            pause: CHECK,
             paused_until: now,
             left: 0,
             failure: None,
@@ -46,17 +53,23 @@ impl Compactor {
     /// shard moves.
     pub(super) fn go_on(&mut self, now: Instant, is_busy: bool) {
         let delay = if is_busy { MOST_DELAY } else { Duration::ZERO };
-        if now < self.due + delay {
+        let due = *self.due.get_or_insert(now + self.pause);
+        if now < due + delay {
             return;
         }
-        self.due = now + CHECK;
+        self.due = None;
         match self.check(now) {
-            Ok(()) => self.failure = None,
-            Err(why) if self.failure.as_ref() == Some(&why) => {}
-            Err(why) => {
-                tracing::warn!(why, "the store's history isn't compacted for now");
-                self.failure = Some(why);
-            }
+            Ok(()) => (self.failure, self.pause) = (None, CHECK),
+            Err(why) => self.note_failure(why),
+        }
+    }
+
+    /// Notes that a check failed, and logs that unless the one before failed for the same reason.
+    fn note_failure(&mut self, why: String) {
+        self.pause = LAST_PAUSE.min(2 * self.pause);
+        if self.failure.as_ref() != Some(&why) {
+            tracing::warn!(why, "the store's history isn't compacted for now");
+            self.failure = Some(why);
         }
     }
 
@@ -67,7 +80,7 @@ impl Compactor {
             return Ok(());
         };
         self.left = self.left.min(size.used);
-        let has_grown = size.used >= self.left + growth(size, self.left);
+        let has_grown = size.used - self.left >= growth(size, self.left);
         if !has_grown || now < self.paused_until {
             return Ok(());
         }
@@ -112,6 +125,9 @@ mod tests {
     struct GrownState {
         size: Option<StoreSize>,
         is_away: bool,
+        /// How often it was asked for its size, and whether it doesn't tell that.
+        asked: u32,
+        hangs: bool,
         compactions: u32,
     }
 
@@ -168,7 +184,12 @@ mod tests {
         }
 
         fn size(&self) -> Result<Option<StoreSize>, ReadError> {
-            Ok(self.state.lock().unwrap().size)
+            let mut state = self.state.lock().unwrap();
+            state.asked += 1;
+            match state.hangs {
+                true => Err(ReadError::Unavailable("a test".to_owned())),
+                false => Ok(state.size),
+            }
         }
 
         fn compact_history(&self) -> Result<(), CompactError> {
@@ -203,9 +224,11 @@ mod tests {
             }
         }
 
-        /// Lets so much time pass, and returns how many compactions the store has made since the beginning.
+        /// Lets so much time pass, and returns how many compactions the store has made since the beginning. The control
+        /// has its next turn at once.
         fn after(&mut self, time: Duration, is_busy: bool) -> u32 {
             self.now += time;
+            self.compactor.go_on(self.now, is_busy);
             self.compactor.go_on(self.now, is_busy);
             self.store.compactions()
         }
@@ -265,12 +288,47 @@ mod tests {
         let mut checked = Checked::new();
         checked.store.state.lock().unwrap().is_away = true;
         assert_eq!(checked.check_at(40, None), 0);
-        assert_eq!(checked.after(CHECK, false), 0);
+        assert_eq!(checked.after(2 * CHECK, false), 0);
         assert!(checked.compactor.failure.is_some());
         checked.store.state.lock().unwrap().is_away = false;
-        assert_eq!(checked.after(CHECK / 2, false), 0);
+        assert_eq!(checked.after(3 * CHECK, false), 0);
         assert_eq!(checked.after(CHECK, false), 1);
         assert!(checked.compactor.failure.is_none());
+    }
+
+    #[test]
+    fn a_store_that_hangs_is_seldom_asked() {
+        let (mut checked, hang) = (Checked::new(), Duration::from_secs(15));
+        checked.store.grow(5, None);
+        checked.store.state.lock().unwrap().hangs = true;
+        // So long each answer takes, and so long after one turn comes the next one.
+        let turns = 3_600 / hang.as_secs() as u32;
+        for _ in 0..turns {
+            checked.compactor.go_on(checked.now, false);
+            checked.now += hang;
+        }
+        checked.after(Duration::ZERO, false);
+        let asked = checked.store.state.lock().unwrap().asked;
+        assert!(4 * asked < turns, "{asked} of {turns}");
+        checked.store.state.lock().unwrap().hangs = false;
+        for (more, pause) in [(1, LAST_PAUSE), (2, CHECK), (3, CHECK)] {
+            checked.after(pause, false);
+            assert_eq!(checked.store.state.lock().unwrap().asked, asked + more);
+        }
+    }
+
+    #[test]
+    fn no_size_is_too_large() {
+        let mut checked = Checked::new();
+        let size = |used| StoreSize {
+            file: used,
+            used,
+            quota: None,
+        };
+        for (used, compactions) in [(u64::MAX, 1), (u64::MAX - 1, 1), (u64::MAX, 1)] {
+            checked.store.state.lock().unwrap().size = Some(size(used));
+            assert_eq!(checked.after(PAUSE, false), compactions, "{used}");
+        }
     }
 
     #[test]
