@@ -37,6 +37,8 @@ pub(super) struct Drain {
     end: Option<Instant>,
     /// Until when it waits for others' migrations under way: for the room that they take, or for their shards.
     others_end: Option<Instant>,
+    /// Why it is over, until its intent is withdrawn.
+    refused: Option<Refusal>,
 }
 
 impl Drain {
@@ -54,6 +56,7 @@ impl Drain {
             moved: Vec::new(),
             end: None,
             others_end: None,
+            refused: None,
         }
     }
 
@@ -83,7 +86,10 @@ impl Drain {
 
     /// Makes the next step. At the end, tells the destinations of the shards.
     pub(super) fn advance(&mut self, control: &mut Controller) -> Result<Advance, Refusal> {
-        let advanced = self.go_on(control);
+        let advanced = match self.refused.take() {
+            Some(refusal) => Err(refusal),
+            None => self.go_on(control),
+        };
         let is_over = match &advanced {
             Ok(Advance::Done(_)) => true,
             Ok(_) => false,
@@ -96,10 +102,14 @@ impl Drain {
             return advanced;
         }
         let withdrawn = control.backend.withdraw(&[Intent::Drain(self.server)]);
-        match advanced {
-            // The next step withdraws it.
-            Ok(Advance::Done(done)) if withdrawn.is_err() => Ok(Advance::Told(done)),
-            advanced => {
+        match (advanced, withdrawn) {
+            // The next step withdraws it, or the next leader goes on with the drain.
+            (Ok(Advance::Done(done)), Err(_)) => Ok(Advance::Told(done)),
+            (Err(refusal), Err(fault)) => {
+                self.refused = Some(refusal);
+                Err(fault.into())
+            }
+            (advanced, _) => {
                 self.is_intended = false;
                 advanced
             }
@@ -461,6 +471,29 @@ mod tests {
         backend.plain().lasts = true;
         drained(&backend).unwrap();
         assert!(backend.plain().plans > 5, "{}", backend.plain().plans);
+    }
+
+    #[test]
+    fn a_refused_drain_is_over_once_no_leader_goes_on_with_it() {
+        let backend = PlainBackend::of(2, Stand::Serving(1));
+        (backend.plain().lasts, backend.plain().spent) = (true, [0].into());
+        let (mut control, mut drain) = (backend.control(), Drain::new(1, false));
+        while backend.plain().stands[1] != Stand::Serving(2) {
+            drain.advance(&mut control).unwrap();
+        }
+        backend.plain().unwithdrawn = [unknown()].into();
+        let mut refused = || loop {
+            match drain.advance(&mut control) {
+                Ok(Advance::Done(done)) => panic!("{done:?}"),
+                Ok(_) => backend.plain().passed += Duration::from_secs(1),
+                Err(refusal) => return (refusal, drain.is_intended()),
+            }
+        };
+        let (doubtful, is_intended) = refused();
+        assert!(doubtful.is_of_store() && is_intended, "{doubtful}");
+        let (refusal, is_intended) = refused();
+        assert!(refusal.is_for_good() && !is_intended, "{refusal}");
+        assert_eq!(backend.plain().intents, [Intent::Drained(1)]);
     }
 
     #[test]

@@ -36,6 +36,8 @@ pub(super) struct Plain {
     pub(super) spent: BTreeSet<u16>,
     /// Why the store doesn't confirm that it keeps the next intents.
     pub(super) unkept: VecDeque<WriteError>,
+    /// Why the store doesn't confirm that it withdraws the next intents.
+    pub(super) unwithdrawn: VecDeque<WriteError>,
     /// The intents that it keeps.
     pub(super) intents: Vec<Intent>,
     /// Why the next command isn't made.
@@ -64,6 +66,7 @@ impl PlainBackend {
             plans: 0,
             spent: BTreeSet::new(),
             unkept: VecDeque::new(),
+            unwithdrawn: VecDeque::new(),
             intents: Vec::new(),
             unmade: None,
             busy: BTreeMap::new(),
@@ -254,8 +257,14 @@ impl Backend for PlainBackend {
     }
 
     fn withdraw(&mut self, intents: &[Intent]) -> Result<(), BackendFault> {
-        self.plain().intents.retain(|it| !intents.contains(it));
-        Ok(())
+        let mut plain = self.plain();
+        match plain.unwithdrawn.pop_front() {
+            None => {
+                plain.intents.retain(|it| !intents.contains(it));
+                Ok(())
+            }
+            Some(error) => Err(Refused::from(error).into()),
+        }
     }
 }
 
