@@ -3,6 +3,7 @@ use hyper::server::conn::Http;
 use hyper::service::service_fn;
 use hyper::{Body, Request};
 use std::convert::Infallible;
+use std::future::Future;
 use std::net::SocketAddr;
 use std::pin::pin;
 use std::sync::{Arc, Mutex, PoisonError};
@@ -25,6 +26,20 @@ struct Activity {
 }
 
 impl Activity {
+    fn new() -> Activity {
+        Activity {
+            state: Mutex::new((0, Instant::now())),
+        }
+    }
+
+    /// Does the work of a request, which is under way meanwhile.
+    async fn noting<T>(&self, work: impl Future<Output = T>) -> T {
+        self.note(1);
+        let done = work.await;
+        self.note(-1);
+        done
+    }
+
     fn note(&self, change: isize) {
         let mut state = self.state.lock().unwrap_or_else(PoisonError::into_inner);
         *state = (state.0.saturating_add_signed(change), Instant::now());
@@ -49,17 +64,13 @@ pub(crate) async fn converse(
     (stream, from): (TcpStream, SocketAddr),
     mut ending: watch::Receiver<bool>,
 ) {
-    let activity = Arc::new(Activity {
-        state: Mutex::new((0, Instant::now())),
-    });
+    let activity = Arc::new(Activity::new());
     let noted = activity.clone();
     let service = service_fn(move |request: Request<Body>| {
         let (gateway, activity) = (gateway.clone(), noted.clone());
         async move {
-            activity.note(1);
-            let response = gateway.answer(request, from).await;
-            activity.note(-1);
-            Ok::<_, Infallible>(response)
+            let answer = gateway.answer(request, from);
+            Ok::<_, Infallible>(activity.noting(answer).await)
         }
     });
     let mut http = Http::new();

@@ -102,46 +102,48 @@ impl Drop for Stub {
     }
 }
 
-/// Answers one request.
-fn serve(stream: &TcpStream, state: &Mutex<State>) {
+/// Reads a request: its head in small letters, and its body.
+fn read(stream: &TcpStream) -> Option<(String, String)> {
     let mut reader = BufReader::new(stream);
     let (mut head, mut line) = (String::new(), String::new());
-    while reader.read_line(&mut line).is_ok_and(|it| it > 2) {
+    while reader.read_line(&mut line).ok()? > 2 {
         head += &line.to_lowercase();
         line.clear();
     }
-    let of = |name: &str| {
-        let value = head
-            .lines()
-            .find_map(|it| it.strip_prefix(name)?.strip_prefix(": "));
-        value.unwrap_or_default().to_owned()
-    };
-    let mut body = vec![0; of("content-length").parse().unwrap_or(0)];
-    if reader.read_exact(&mut body).is_err() {
+    let length = value_of(&head, "content-length").parse().unwrap_or(0);
+    let mut body = vec![0; length];
+    reader.read_exact(&mut body).ok()?;
+    Some((head, String::from_utf8(body).ok()?))
+}
+
+/// Returns the value of a header, or an empty text.
+fn value_of<'a>(head: &'a str, name: &str) -> &'a str {
+    let mut lines = head.lines();
+    let value = lines.find_map(|it| it.strip_prefix(name)?.strip_prefix(": "));
+    value.unwrap_or_default()
+}
+
+/// Answers one request, if it is one of a shard.
+fn serve(stream: &TcpStream, state: &Mutex<State>) {
+    let Some((head, body)) = read(stream) else {
         return;
-    }
+    };
     let path = head.split(' ').nth(1).unwrap_or_default();
     let parts: Vec<_> = path.split('/').collect();
     let [_, "shard", shard, handler] = parts[..] else {
         return;
     };
-    let body = String::from_utf8(body).unwrap();
-    let shard = shard.parse().unwrap();
-    let mode = state.lock().unwrap().mode;
+    let (shard, mode) = (shard.parse().unwrap(), state.lock().unwrap().mode);
     if handler == "call" && mode == Mode::Stuck {
         thread::sleep(Duration::from_secs(2));
     }
     if handler == "call" && mode == Mode::Ends {
         return;
     }
+    let came = value_of(&head, "durkenzo-came");
     let (status, answer) = match handler {
         "call" => called(&mut state.lock().unwrap(), shard, &head, &body),
-        _ => handled(
-            &mut state.lock().unwrap(),
-            (shard, handler),
-            &of("durkenzo-came"),
-            &body,
-        ),
+        _ => handled(&mut state.lock().unwrap(), (shard, handler), came, &body),
     };
     let length = answer.len();
     let head =
