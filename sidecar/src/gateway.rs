@@ -9,7 +9,7 @@ use crate::route_list::RouteList;
 use crate::sidecar_service::SidecarService;
 use crate::target::{key_of, Target};
 use crate::{SidecarOptions, MOST};
-use durkenzo_fleet::{Answer, AsyncRouter, Fleet, Retry};
+use durkenzo_fleet::{Answer, AsyncRouter, CallError, Fleet, Retry};
 use hyper::header::{HeaderMap, HeaderValue, CONNECTION, CONTENT_TYPE, LOCATION};
 use hyper::{Body, Request, Response, StatusCode};
 use std::net::SocketAddr;
@@ -155,24 +155,26 @@ impl Gateway {
         let budget = budget_of(request.headers())?;
         let budget = budget.map_or(self.longest_call, |it| it.min(self.longest_call));
         let content_type = text_of(request.headers(), CONTENT_TYPE.as_str());
-        let end = Instant::now() + budget;
+        let began = Instant::now();
         let bytes = body_of(request.into_body(), MOST, budget.min(BODY)).await?;
         let head = CallHead {
             key,
             content_type,
             within: 0,
         };
-        self.called(shard, head, &bytes, end).await
+        self.called(shard, head, &bytes, (began, budget)).await
     }
 
-    /// Calls until the application has answered, or this time has come. A call is sent again only if it wasn't made.
+    /// Calls until the application has answered, or the time of the call is over. A call is sent again only if it wasn't
+    /// made, and not in the last quarter of its time, because it would be unsure if its answer came too late.
     async fn called(
         &self,
         shard: u16,
         mut head: CallHead,
         bytes: &[u8],
-        end: Instant,
+        (began, budget): (Instant, Duration),
     ) -> Result<Response<Body>, Refusal> {
+        let (end, last) = (began + budget, began + budget - budget / 4);
         loop {
             let left = end.saturating_duration_since(Instant::now());
             // What became of the call must come back in time.
@@ -181,7 +183,8 @@ impl Gateway {
             let answer = self
                 .router
                 .call_shard(shard, &call, Retry::Until(left))
-                .await?;
+                .await
+                .map_err(|error| refused(error, end))?;
             let refusal = match opened::<Outcome>(&answer.bytes) {
                 Ok((
                     Outcome::Answered {
@@ -197,7 +200,7 @@ impl Gateway {
                 Ok((Outcome::Failed(refusal), _)) => refusal,
                 Err(fault) => Refusal::new(ErrorName::Unsure, fault.to_string()),
             };
-            if !refusal.name.is_transient() || Instant::now() + PAUSE >= end {
+            if !refusal.name.is_transient() || Instant::now() + PAUSE >= last {
                 return Err(refusal);
             }
             sleep(PAUSE).await;
@@ -294,6 +297,15 @@ async fn body_of(body: Body, most: usize, within: Duration) -> Result<Vec<u8>, R
         };
         Refusal::new(name, fault.to_string())
     })
+}
+
+/// Returns what the client of a call is told that has no answer. Its time is over at the end.
+fn refused(error: CallError, end: Instant) -> Refusal {
+    match error {
+        CallError::NotMade(why) => Refusal::new(ErrorName::NotMade, why),
+        CallError::Unsure(why) if Instant::now() >= end => Refusal::new(ErrorName::UnsureLate, why),
+        CallError::Unsure(why) => Refusal::new(ErrorName::Unsure, why),
+    }
 }
 
 /// Returns the text of a header, if there is one.

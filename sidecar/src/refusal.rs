@@ -1,5 +1,4 @@
 use crate::error_name::ErrorName;
-use durkenzo_fleet::CallError;
 use hyper::header::{HeaderValue, CONTENT_TYPE, RETRY_AFTER};
 use hyper::{Body, Response};
 use serde::{Deserialize, Serialize};
@@ -36,14 +35,5 @@ impl Refusal {
             headers.insert(RETRY_AFTER, HeaderValue::from_static("1"));
         }
         response
-    }
-}
-
-impl From<CallError> for Refusal {
-    fn from(error: CallError) -> Refusal {
-        match error {
-            CallError::NotMade(why) => Refusal::new(ErrorName::NotMade, why),
-            CallError::Unsure(why) => Refusal::new(ErrorName::Unsure, why),
-        }
     }
 }

@@ -154,8 +154,7 @@ fn a_call_has_a_named_error_if_its_application_fails_and_the_shard_stays() {
     let fleet = Sidecars::begin("");
     fleet.migrate(1);
     assert_eq!(fleet.count(), 1);
-    let brief = [("durkenzo-budget", "800")];
-    let call = || asked(fleet.at(2), &format!("POST {CALL}"), &brief, "hit").unwrap();
+    let call = |headers: &[_]| asked(fleet.at(2), &format!("POST {CALL}"), headers, "hit").unwrap();
     for (mode, fault) in [
         (Mode::Stuck, (504, "Unsure")),
         (Mode::Fails, (500, "Unsure")),
@@ -163,7 +162,9 @@ fn a_call_has_a_named_error_if_its_application_fails_and_the_shard_stays() {
         (Mode::Ends, (502, "Unsure")),
     ] {
         fleet.stub(1).turn(mode);
-        let told = call();
+        // An application that is stuck takes longer than this.
+        let brief = [("durkenzo-budget", "800")];
+        let told = call(&brief[usize::from(mode != Mode::Stuck)..]);
         assert_eq!(told.fault(), fault, "{mode:?}: {told:?}");
     }
     fleet.stub(1).turn(Mode::Well);
@@ -179,7 +180,7 @@ fn an_application_that_is_begun_anew_gets_its_shards_as_lost() {
     let address = fleet.stub(1).address;
     // The application's socket is closed.
     drop(fleet.stubs.remove(0));
-    let brief = [("durkenzo-budget", "300")];
+    let brief = [("durkenzo-budget", "4000")];
     let told = asked(fleet.at(2), &format!("POST {CALL}"), &brief, "hit").unwrap();
     assert_eq!(
         (told.fault(), told.header("retry-after")),
@@ -245,7 +246,7 @@ fn what_is_too_much_is_refused_by_name() {
         (400, "BadRequest")
     );
     // A body that doesn't come, and another call in the meantime.
-    let slow = [("content-length", "9"), ("durkenzo-budget", "1000")];
+    let slow = [("content-length", "9"), ("durkenzo-budget", "3000")];
     let mut stream = begun(at, &format!("POST {CALL}"), &slow).unwrap();
     until("the other call is under way", || {
         post(at, CALL, "hit").fault() == (503, "Busy")
