@@ -25,6 +25,7 @@ PROVED = [sources.CRATES / it / "out" / exported.library_of(it) for it in export
 NAMED = "DURKENZO_LIB"
 PROGRAM = sources.CRATES / "sm_cli/out/sm_cli"
 COUNTED = "every admission was counted\n"
+FORWARDED = "each request was executed once\n"
 TOLD = "the header is right\n"
 SECONDS = 1200
 STRICT = ["gcc", "-std=c11", "-Wall", "-Wextra", "-Werror"]
@@ -73,6 +74,7 @@ def in_rust(room):
     yield workspace.ran("the crate's tests", "test", *of)
     yield workspace.ran("the crate's example", *run, "counters", wanted=COUNTED)
     yield workspace.ran("its example that holds two shards", *run, "transfer")
+    yield workspace.ran("its example that forwards", *run, "forwarding", wanted=FORWARDED)
     yield workspace.ran("the example of fences compiles", "build", *of, "--example", "fenced")
     yield from fenced(room, [examples / "fenced"], "Rust")
     yield workspace.ran("the driver of scripts compiles", "build", *of, "--example", "script")

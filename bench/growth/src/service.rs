@@ -3,8 +3,7 @@ use crate::keys::{bound_of, key_of};
 use crate::shard_store::{server, shard_at, KeyRequest, ShardStore, ShardWorker};
 use crate::sizes::Sizes;
 use durkenzo::{
-    Envelope, Layout, Reply, Request, ServeFault, ServeRefused, Served, ServerId, Service,
-    ServicePass, ShardId, Value,
+    Envelope, Layout, Reply, Request, Served, ServerId, Service, ServicePass, ShardId, Value,
 };
 use std::thread;
 
@@ -84,7 +83,7 @@ impl ShardWorker for Asker<'_> {
                     }
                 }
                 Ok(Served::Forward(to, back)) => (envelope, at) = (back, to),
-                Err(refused) if is_passing(&refused) => {
+                Err(refused) if refused.fault.is_transient() => {
                     thread::yield_now();
                     envelope = refused.envelope;
                 }
@@ -99,9 +98,4 @@ impl ShardWorker for Asker<'_> {
             }
         }
     }
-}
-
-/// Returns whether the request was refused because another thread had the shard or was first.
-fn is_passing(refused: &ServeRefused) -> bool {
-    matches!(refused.fault, ServeFault::Admit(fault) if fault.is_transient())
 }

@@ -136,7 +136,7 @@ impl<T> Control<T> {
     /// back; after it, [`Control::drop_shard`] ends the migration.
     pub fn migrate(&self, shard: ShardId, server: ServerId) -> Result<(), ChangeFault> {
         let mut steps = migration(server).into_iter();
-        steps.try_for_each(|step| self.change_until(shard, step, None))
+        steps.try_for_each(|step| self.change_blocking(shard, step))
     }
 
     /// Moves the shard as [`Control::migrate`] does, without waiting.
@@ -320,6 +320,16 @@ impl<T> Control<T> {
             0 => Ok(()),
             code => Err(ChangeFault::of(code, Record::of(&read))),
         }
+    }
+
+    /// Makes this change of the shard as soon as the shard isn't admitted. Until then, the thread is parked, as in
+    /// [`Control::migrate`].
+    ///
+    /// # Errors
+    ///
+    /// [Those of a change](Control#errors), except for `Busy` and `Raced`.
+    pub fn change_blocking(&self, shard: ShardId, change: Change) -> Result<(), ChangeFault> {
+        self.change_until(shard, change, None)
     }
 
     /// Makes this change of the shard. While the shard is admitted, the thread is parked, at most for this time.

@@ -48,6 +48,15 @@ impl AdmitFault {
     }
 }
 
+impl ServeFault {
+    /// Returns whether the same call may succeed if you make it again at once, because another thread had the shard or
+    /// was first.
+    #[must_use]
+    pub fn is_transient(&self) -> bool {
+        matches!(self, ServeFault::Admit(fault) if fault.is_transient())
+    }
+}
+
 impl ChangeFault {
     /// Returns the record that was read or found, if there was one.
     pub fn record(&self) -> Option<Record> {

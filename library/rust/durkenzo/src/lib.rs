@@ -78,7 +78,7 @@
 //! let board = Board::builder().servers(1).build(vec![std::rc::Rc::new(0)]).unwrap();
 //! std::thread::spawn(move || drop(board));
 //! ```
-#![warn(missing_docs)]
+#![warn(missing_docs, missing_debug_implementations, unreachable_pub)]
 #![warn(clippy::missing_errors_doc)]
 mod admission;
 mod board;
@@ -86,6 +86,7 @@ mod change;
 mod control;
 mod entry;
 mod envelope;
+mod error;
 mod fault;
 mod id_fault;
 mod layout;
@@ -118,6 +119,7 @@ pub use board::{Board, Builder};
 pub use change::Change;
 pub use control::Control;
 pub use envelope::{Answer, Envelope};
+pub use error::Error;
 pub use fault::{
     AdmitFault, BuildFault, ChangeFault, CheckpointFault, LayoutFault, MapFault, NoteFault,
     PassFault, PlanFault, PublishFault, RestartFault, RoutesFault, SendFault, ServeFault,

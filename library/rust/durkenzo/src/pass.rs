@@ -166,8 +166,9 @@ impl<T> Pass<T> {
     /// Those of [`Pass::admit_blocking`].
     ///
     /// ```
-    /// # use durkenzo::{AdmitFault, Mode, Pass};
-    /// async fn count(pass: &mut Pass<u64>) -> Result<u64, AdmitFault> {
+    /// use durkenzo::{AdmitFault, Mode, Pass, ShardId};
+    ///
+    /// async fn count(pass: &mut Pass<u64>, shard: ShardId) -> Result<u64, AdmitFault> {
     ///     let mut count = pass.admit_async(shard, Mode::Direct).await?;
     ///     *count += 1;
     ///     Ok(*count)

@@ -246,7 +246,7 @@ fn futures_may_go_to_other_threads() {
 /// Threads, tasks and a control all wait for one shard. If a wake were lost, the test wouldn't end.
 #[test]
 fn no_wake_is_lost() {
-    const ROUNDS: u64 = 3_000;
+    const ROUNDS: u64 = 300;
     let board = board(1);
     let is_done = AtomicBool::new(false);
     let counted: u64 = thread::scope(|scope| {
