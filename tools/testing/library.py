@@ -78,6 +78,9 @@ def in_rust(room):
     yield workspace.ran("the example of fences compiles", "build", *of, "--example", "fenced")
     yield from fenced(room, [examples / "fenced"], "Rust")
     yield workspace.ran("the driver of scripts compiles", "build", *of, "--example", "script")
+    if shutil.which("valgrind"):
+        watched = [sources.TOP / "tools/library-sanitizers", "--seconds", 1]
+        yield ran("the crate under memcheck and helgrind", watched, sources.TOP)
     if not PROGRAM.is_file():
         return
     driver = examples / "script"
