@@ -2,9 +2,10 @@
  * and the answers. It has no input or output of its own: the caller reads the store, sends the transactions, and
  * tells the server their outcomes. A program may link it together with the calls of durkenzo.h.
  *
- * Every call returns 0 or a code. If the call's comment doesn't mention the code, for example NO_MEMORY, close the
- * handle and make another server. A handle must begin as bytes of 0, must not be copied, and must be used by one
- * call at a time. The memory behind a call's pointers must not overlap, unless both are const.
+ * Every call returns 0 or a code. If a call is refused, the handle doesn't change, unless the call says otherwise. A
+ * server that has read nothing must read the whole shard, from 1. You may always close the handle and make another
+ * server. A handle must begin as bytes of 0, must not be copied, and must be used by one call at a time. The memory
+ * behind a call's pointers must not overlap, unless both are const.
  *
  * The loop of a driver, for each shard:
  *  1. Read the shard's record and the head of its log, with their revisions, the parts of the base that the head names,
@@ -136,23 +137,27 @@ typedef struct {
 
 /* Makes server `me` of the shard, which is one of `count` shards. The server has read nothing yet. A batch takes at
  * most `batch_bytes` bytes of requests, and at most `batch_requests` requests. At most `waiting` requests wait, and
- * as many reads. The server keeps the last request of `clients` clients. */
+ * as many reads. The server keeps the last request of `clients` clients. Errors: BAD_ARGUMENT, UNKNOWN_SHARD and
+ * NO_MEMORY. */
 uint32_t durkenzo_server(durkenzo_server_handle *server, uint16_t me, uint16_t shard, uint64_t count,
                          uint64_t batch_bytes, size_t batch_requests, size_t waiting, size_t clients);
 
 /* Writes the contents of a log's head: you must read parts 0 to `parts` - 1 of base number `base`, and batches
- * `base` + 1 to `batches`. */
+ * `base` + 1 to `batches`. BAD_BYTES if the bytes aren't those of a head. */
 uint32_t durkenzo_log_head_of(const uint8_t *bytes, size_t length, durkenzo_log_head *head);
 
-/* Adds the next part that was read of the base, in the order of their places. Must come before durkenzo_server_read. */
+/* Adds the next part that was read of the base, in the order of their places. Must come before durkenzo_server_read.
+ * Errors: WRONG_HANDLE, NO_MEMORY and BAD_BYTES. */
 uint32_t durkenzo_server_part_read(durkenzo_server_handle *server, const uint8_t *bytes, size_t length);
 
 /* Adds the next batch that was read, in the order of their numbers. Must come before durkenzo_server_read or
- * durkenzo_server_append. */
+ * durkenzo_server_append. Errors: WRONG_HANDLE, NO_MEMORY and BAD_BYTES. */
 uint32_t durkenzo_server_batch(durkenzo_server_handle *server, const uint8_t *bytes, size_t length);
 
 /* Tells the server that the shard was read: its record at revision `stood`, the head of its log at revision
- * `logged`, and the parts of its base and the batches, which were added and are dropped now. */
+ * `logged`, and the parts of its base and the batches, which were added and are dropped now, also if the call is
+ * refused. After BAD_BYTES the server knows what it knew, and after MISSING or BAD_LOG it has read nothing. NO_MEMORY
+ * leaves one of the two. */
 uint32_t durkenzo_server_read(durkenzo_server_handle *server, const uint8_t *record, size_t record_length,
                               uint64_t stood, const uint8_t *head, size_t head_length, uint64_t logged);
 
@@ -163,57 +168,66 @@ uint32_t durkenzo_server_batch_count(durkenzo_server_handle *server, uint64_t *b
 /* Tells the server that the shard was read on from the server's place: its record at revision `stood`, the head of
  * its log at revision `logged`, and the batches above those that the server has made, which were added and are
  * dropped now. Requests that were sent or wait here must be given again. MISSING: not all of the batches were given,
- * or the server has read nothing. Then the whole shard must be read. */
+ * or the server has read nothing. If it is refused, the batches are dropped, and the server is as it is when
+ * durkenzo_server_read is refused for the same code. */
 uint32_t durkenzo_server_append(durkenzo_server_handle *server, const uint8_t *record, size_t record_length,
                                 uint64_t stood, const uint8_t *head, size_t head_length, uint64_t logged);
 
-/* Tells the server that only the record was read, or seen by a watch. Requests that wait here must be given again. */
+/* Tells the server that only the record was read, or seen by a watch. Requests that wait here must be given again.
+ * Errors: WRONG_HANDLE, NO_MEMORY and BAD_BYTES. */
 uint32_t durkenzo_server_record(durkenzo_server_handle *server, const uint8_t *record, size_t length, uint64_t stood);
 
 /* Takes a request, which came directly (`from` 0) or from the server `from`, and was forwarded `hops` times. When it
  * is executed, clients below `forgets` are forgotten; 0 forgets none. The request is its kind (1 get, 2 put, 3
  * append, 4 inc, 5 del), the length of its key, 1 to 255, the key, and then the text, or the amount in 8 bytes, the
  * highest first. The same client and number must always come with the same request. Returns 0 if the request is
- * executed, and writes its reply. Else 70 to 79 tell the decision, and the server goes on. */
+ * executed, and writes its reply. Else 70 to 79 tell the decision, and the server goes on. Errors: WRONG_HANDLE,
+ * BAD_ARGUMENT and NO_MEMORY, which mean that nothing was decided. */
 uint32_t durkenzo_server_take(durkenzo_server_handle *server, uint64_t client, uint64_t number, uint16_t from,
                               uint8_t hops, uint64_t forgets, const uint8_t *request, size_t length,
                               durkenzo_text_reply *reply, durkenzo_text_forward *forward);
 
-/* Allows waiting requests to be sent if nothing is under way. Writes whether there is something to send now. */
+/* Allows waiting requests to be sent if nothing is under way. Writes whether there is something to send now. Errors:
+ * WRONG_HANDLE and NO_MEMORY. */
 uint32_t durkenzo_server_flush(durkenzo_server_handle *server, bool *sends);
 
-/* Writes the transaction to send: the bytes for the head, followed by those for the batch. */
+/* Writes the transaction to send: the bytes for the head, followed by those for the batch. Errors: WRONG_HANDLE,
+ * NO_MEMORY, TOO_SHORT, TOO_LARGE, and UNREAD if the server has read nothing. */
 uint32_t durkenzo_server_sending(durkenzo_server_handle *server, durkenzo_sent_numbers *sent, uint8_t *into,
                                  size_t room);
 
 /* Tells the server that its transaction was made at this revision, or, if it only compares, that its compares have
- * held. Writes how many answers to executed requests, and how many answers to reads, you must send. */
+ * held. Writes how many answers to executed requests, and how many answers to reads, you must send. If it is refused,
+ * the server has read nothing; the log has what was made. */
 uint32_t durkenzo_server_made(durkenzo_server_handle *server, uint64_t revision, size_t *made, size_t *read);
 
-/* Writes the answer at this place to an executed request. */
+/* Writes the answer at this place to an executed request. NO_MORE if there are no more. */
 uint32_t durkenzo_server_answer(durkenzo_server_handle *server, size_t at, durkenzo_text_answer *answer);
 
-/* Writes the answer at this place to a read, with its text. */
+/* Writes the answer at this place to a read, with its text. NO_MORE if there are no more, or the request was no read.
+ * TOO_SHORT if the text has more bytes than the room. */
 uint32_t durkenzo_server_text(durkenzo_server_handle *server, size_t at, durkenzo_text_answer *answer, uint8_t *into,
                               size_t room);
 
 /* Tells the server that a compare of its transaction failed, or that the outcome isn't known. The server returns
- * NOT_READ until it has read or appended. */
+ * NOT_READ until it has read or appended. Only WRONG_HANDLE refuses it. */
 uint32_t durkenzo_server_lost(durkenzo_server_handle *server);
 
 /* Begins a base of everything that is made, if no other base is under way and there are batches that the last base
- * doesn't stand for. Writes whether its parts must be written now. */
+ * doesn't stand for. Writes whether its parts must be written now. Errors: WRONG_HANDLE and NO_MEMORY. */
 uint32_t durkenzo_server_base(durkenzo_server_handle *server, bool *begins);
 
-/* Writes the bytes for the key of this part of the base. NO_MORE if the base has no such part. */
+/* Writes the bytes for the key of this part of the base. NO_MORE if the base has no such part. Other errors:
+ * WRONG_HANDLE, NO_MEMORY, TOO_SHORT and TOO_LARGE. */
 uint32_t durkenzo_server_part(durkenzo_server_handle *server, size_t place, durkenzo_part_numbers *part, uint8_t *into,
                               size_t room);
 
-/* Tells the server that each part of the base was put, so that the next transaction names the base. */
+/* Tells the server that each part of the base was put, so that the next transaction names the base. Only WRONG_HANDLE
+ * refuses it. */
 uint32_t durkenzo_server_parts_made(durkenzo_server_handle *server);
 
 /* Writes whether a batch, or a part of a base if `is_part`, of this number is behind the base that the head names,
- * so that you should delete it. The place of a batch is 0. */
+ * so that you should delete it. The place of a batch is 0. Only WRONG_HANDLE refuses it. */
 uint32_t durkenzo_server_is_behind(durkenzo_server_handle *server, bool is_part, uint64_t number, uint64_t place,
                                    bool *behind);
 
@@ -226,7 +240,7 @@ uint32_t durkenzo_server_keys(durkenzo_server_handle *server, uint64_t *keys);
 
 /* Writes the first keys that have a value then, at least `low` and below `high`, at most `most` of them, in their
  * order. Each key follows its length in 8 bytes, the highest first. Every key is below 256 bytes of 255. TOO_SHORT
- * if the keys have more bytes than the room. NO_MEMORY doesn't change the server, and it can go on. */
+ * if the keys have more bytes than the room. */
 uint32_t durkenzo_server_scan(durkenzo_server_handle *server, const uint8_t *low, size_t low_length,
                               const uint8_t *high, size_t high_length, size_t most, durkenzo_key_numbers *numbers,
                               uint8_t *into, size_t room);

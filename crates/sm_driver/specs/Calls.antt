@@ -1,10 +1,13 @@
 -- The effects of calls on the server that a handle keeps.
-use Rattle.std.specs.Prelude.{ℕ, ◌≡◌, ◌<◌, ◌⊎◌, List, Option, Some, None, length, slice_get, take, IfSome, IsSome}
+use Rattle.std.specs.Prelude.{ℕ, ◌≡◌, ◌<◌, ◌≤◌, ◌⊎◌, List, Option, Some, None, length, slice_get, take, IfSome, IsSome}
 use Rattle.sm_map.specs.KeyMap.{KeyPair}
 use Rattle.sm_shard.specs.declared.replica.MadeReply.{MadeReply}
 use Rattle.sm_shard.specs.declared.replica.ReadReply.{ReadReply}
 use Rattle.sm_shard_bytes.specs.declared.codes.TheConstants as codes
+use Rattle.sm_shard_bytes.specs.declared.byte_server.ByteServer.{ByteServer}
+use Rattle.sm_shard_bytes.specs.declared.server_fault.ServerFault.{ServerFault}
 use Rattle.sm_shard_bytes.specs.Calls.{Between}
+use Rattle.sm_shard_bytes.specs.Refusals.{LeavesState, RefusesForFault}
 use Rattle.sm_texts.specs.declared.text_reply.TextReply.{TextReply}
 use Rattle.sm_texts.specs.Keys.{spelled_keys}
 use Rattle.sm_driver.specs.declared.text_answer.TextAnswer.{TextAnswer}
@@ -17,6 +20,12 @@ abbrev pub MakesOn : Option TextServer → (TextServer → TextInput → Type 0)
     → Type 0
 MakesOn old is_input is_output new =
     Between (λ before after. TextsDone before (is_input before) is_output after) old new
+
+-- a call was refused, and this is the code; the handle keeps no server, as before, or its server was left so
+abbrev pub RefusesTexts : (ServerFault → ByteServer (List KeyPair) TextReply → ByteServer (List KeyPair) TextReply
+    → Type 0) → ℕ → Option TextServer → Option TextServer → Type 0
+RefusesTexts leaves code old new =
+    LeavesState (λ told before after. RefusesForFault leaves told before.server after.server) code old new
 
 -- the answer is the one at this place
 abbrev pub IsMadeAnswer : TextServer → ℕ → TextAnswer → Type 0
@@ -41,6 +50,22 @@ TellsRead read answer written =
 abbrev pub IsReadAnswer : ℕ → TextAnswer → List ℕ → TextServer → Type 0
 IsReadAnswer at answer written texts =
     (read : ReadReply TextReply) × (slice_get texts.server.read.items at ≡ Some read) × TellsRead read answer written
+
+-- no answer to a request that was made is at this place
+abbrev pub LacksMade : ℕ → ℕ → TextServer → Type 0
+LacksMade at code texts = (code ≡ codes.NO_MORE) × (length texts.server.made.items ≤ at)
+
+-- the read has no answer, or its text has more bytes than this room
+abbrev pub LacksText : List ℕ → ℕ → ReadReply TextReply → Type 0
+LacksText room code read =
+    ((code ≡ codes.NO_MORE) × (read.answer ≡ None))
+    ⊎ ((code ≡ codes.TOO_SHORT) × IfSome read.answer (λ found. length room < length found.text.items))
+
+-- no answer to a read is at this place, or this is why it isn't written
+abbrev pub LacksRead : ℕ → List ℕ → ℕ → TextServer → Type 0
+LacksRead at room code texts =
+    ((code ≡ codes.NO_MORE) × (length texts.server.read.items ≤ at))
+    ⊎ ((read : ReadReply TextReply) × (slice_get texts.server.read.items at ≡ Some read) × LacksText room code read)
 
 -- the numbers and the bytes are those of the keys of these pairs
 pub record WritesKeys (pairs : List KeyPair) (numbers : KeyNumbers) (written : List ℕ) : Type 0 where

@@ -1,11 +1,11 @@
 //! A server's core over a shared store, for callers in C, C++, Python and Rust: its decisions, transactions and
 //! answers, without any input or output of its own. The caller reads the store, sends the transactions and tells their
-//! outcomes. Each call answers 0, or a code of library/codes.txt; if the call doesn't document that code, the caller
-//! must close the server and make another one. A handle must begin as bytes of 0. It may pass from thread to thread,
-//! and is used by one call at a time.
+//! outcomes. Each call answers 0, or a code of library/codes.txt. If a call is refused, the handle is as it was, except
+//! that a refused reading or outcome can leave a server that has read nothing, which must then read the shard. A handle
+//! must begin as bytes of 0. It may pass from thread to thread, and is used by one call at a time.
 #![tactic(auto)]
 
-ghost use Rattle.std.specs.Prelude.{◌≡◌, ◌≢◌, ◌-◌, ◌^◌, true, None, length, min};
+ghost use Rattle.std.specs.Prelude.{◌≡◌, ◌≢◌, ◌-◌, ◌^◌, false, true, None, length, min};
 ghost use Rattle.sm_codec.specs.Spelling.{head_bytes};
 ghost use Rattle.sm_shard.specs.declared.steps.ShardInput.TheVariants.{Base as BaseInput, Clear as ClearInput};
 ghost use Rattle.sm_shard.specs.declared.steps.ShardInput.TheVariants.{Flush as FlushInput, Lost as LostInput};
@@ -13,6 +13,9 @@ ghost use Rattle.sm_shard.specs.declared.steps.ShardInput.TheVariants.{PartsMade
 ghost use Rattle.sm_shard.specs.Decisions.{batches_made, clients_kept};
 ghost use Rattle.sm_shard_bytes.specs.Calls.{Between, IsDecidedAs, IsRequestInput, KeepsState, WritesPart};
 ghost use Rattle.sm_shard_bytes.specs.Calls.{WritesSending, is_decided};
+ghost use Rattle.sm_shard_bytes.specs.Refusals.{IsUnmade, LeavesState, RefusesAppend, RefusesBytes};
+ghost use Rattle.sm_shard_bytes.specs.Refusals.{RefusesMemory, RefusesOutcome, RefusesPart, RefusesReadAll};
+ghost use Rattle.sm_shard_bytes.specs.Refusals.{RefusesRequest, RefusesSending, RefusesServer};
 ghost use Rattle.sm_shard_bytes.specs.Servers.{AddsBatch, AddsPart, IsAny, IsAppending, IsReading, IsRecordReading};
 ghost use Rattle.sm_shard_bytes.specs.Servers.{TellsAnswers, is_basing, is_clearing, is_sending, passing_key};
 ghost use Rattle.sm_shard_bytes.specs.Servers.{request_size};
@@ -20,7 +23,7 @@ ghost use Rattle.sm_texts.specs.Replies.{reply_bytes};
 ghost use Rattle.sm_texts.specs.Saves.{texts_service};
 ghost use Rattle.sm_texts.specs.Texts.{is_read};
 ghost use Rattle.sm_driver.specs.Calls.{IsMadeAnswer, IsReadAnswer, LacksRoom, MakesOn, ScansKeys, ScansNothing};
-ghost use Rattle.sm_driver.specs.Calls.{TellsRead};
+ghost use Rattle.sm_driver.specs.Calls.{LacksMade, LacksRead, LacksText, RefusesTexts, TellsRead};
 ghost use Rattle.sm_driver.specs.Servers.{IsNewTexts, keys_held};
 
 pub mod key_numbers;
@@ -35,7 +38,7 @@ use sm_ranges::server_id::ServerId;
 use sm_ranges::shard_id::ShardId;
 use sm_shard::{ReadReply, ShardLimits};
 use sm_shard_bytes::codes::{
-    BAD_ARGUMENT, NO_MEMORY, NO_MORE, TOO_SHORT, UNKNOWN_SHARD, WRONG_HANDLE,
+    BAD_ARGUMENT, BAD_BYTES, NO_MEMORY, NO_MORE, TOO_SHORT, UNKNOWN_SHARD, WRONG_HANDLE,
 };
 use sm_shard_bytes::written::write;
 use sm_shard_bytes::{ForwardNumbers, LogHead, PartNumbers, SentNumbers, calls};
@@ -67,6 +70,7 @@ pub extern "C" fn durkenzo_server(
       clients = clients;
     })) server.new.owned.state }
     ensures kept { result ≢ 0 → server.new.owned.state ≡ server.old.owned.state }
+    ensures refused { result ≢ 0 → IsUnmade me shard count result }
 {
     let Some(me) = ServerId::new(me) else {
         return BAD_ARGUMENT;
@@ -101,6 +105,7 @@ pub extern "C" fn durkenzo_server_batch(
         × (new.server.parts ≡ old.server.parts)
         × AddsBatch old.server.batches.items bytes.now new.server.batches.items)
         server.old.owned.state server.new.owned.state }
+    ensures refused { result ≢ 0 → RefusesTexts RefusesBytes result server.old.owned.state server.new.owned.state }
 {
     if !server.full {
         return WRONG_HANDLE;
@@ -119,6 +124,7 @@ pub extern "C" fn durkenzo_server_part_read(
         × (new.server.batches ≡ old.server.batches)
         × AddsPart reply_bytes old.server.parts.items bytes.now new.server.parts.items)
         server.old.owned.state server.new.owned.state }
+    ensures refused { result ≢ 0 → RefusesTexts RefusesBytes result server.old.owned.state server.new.owned.state }
 {
     if !server.full {
         return WRONG_HANDLE;
@@ -129,11 +135,12 @@ pub extern "C" fn durkenzo_server_part_read(
 /// Reads the bytes at a log's head, which tell the batches and parts that must be read.
 #[unsafe(no_mangle)]
 pub extern "C" fn durkenzo_log_head_of(bytes: &[u8], head: &mut LogHead) -> u32
-    ensures { result ≡ 0 → bytes.now ≡ head_bytes (record {
+    ensures read { result ≡ 0 → bytes.now ≡ head_bytes (record {
       batches = head.new.batches;
       base = head.new.base;
       parts = head.new.parts;
     }) }
+    ensures refused { result ≢ 0 → (result ≡ BAD_BYTES) × (head.new ≡ head.old) }
 {
     calls::log_head(bytes, head)
 }
@@ -151,6 +158,7 @@ pub extern "C" fn durkenzo_server_read(
 ) -> u32
     ensures made { result ≡ 0 → MakesOn server.old.owned.state
         (λ old. IsReading old.server standing.now stood head.now logged) IsAny server.new.owned.state }
+    ensures refused { result ≢ 0 → RefusesTexts RefusesReadAll result server.old.owned.state server.new.owned.state }
 {
     if !server.full {
         return WRONG_HANDLE;
@@ -173,6 +181,7 @@ pub extern "C" fn durkenzo_server_append(
 ) -> u32
     ensures made { result ≡ 0 → MakesOn server.old.owned.state
         (λ old. IsAppending old.server standing.now stood head.now logged) IsAny server.new.owned.state }
+    ensures refused { result ≢ 0 → RefusesTexts RefusesAppend result server.old.owned.state server.new.owned.state }
 {
     if !server.full {
         return WRONG_HANDLE;
@@ -208,6 +217,7 @@ pub extern "C" fn durkenzo_server_record(
 ) -> u32
     ensures made { result ≡ 0 → MakesOn server.old.owned.state (λ old. IsRecordReading standing.now stood) IsAny
         server.new.owned.state }
+    ensures refused { result ≢ 0 → RefusesTexts RefusesBytes result server.old.owned.state server.new.owned.state }
 {
     if !server.full {
         return WRONG_HANDLE;
@@ -234,6 +244,9 @@ pub extern "C" fn durkenzo_server_take(
     ensures decided { is_decided result ≡ true → MakesOn server.old.owned.state
         (λ old. IsRequestInput (is_read request.now) client number from hops forgets request.now)
         (IsDecidedAs result reply.new forward.new) server.new.owned.state }
+    ensures refused { is_decided result ≡ false → LeavesState
+        (λ code old new. RefusesRequest from code old.server new.server) result
+        server.old.owned.state server.new.owned.state }
 {
     if !server.full {
         return WRONG_HANDLE;
@@ -264,6 +277,7 @@ pub extern "C" fn durkenzo_server_flush(
 ) -> u32
     ensures made { result ≡ 0 → MakesOn server.old.owned.state (λ old input. input ≡ FlushInput)
         (λ output. is_sending output ≡ sends.new) server.new.owned.state }
+    ensures refused { result ≢ 0 → RefusesTexts RefusesMemory result server.old.owned.state server.new.owned.state }
 {
     if !server.full {
         return WRONG_HANDLE;
@@ -283,6 +297,8 @@ pub extern "C" fn durkenzo_server_sending(
     ensures written { result ≡ 0 → KeepsState (λ texts.
         WritesSending texts_service numbers.new into.new texts.server) server.old.owned.state }
     ensures unchanged { server.new.owned.state ≡ server.old.owned.state }
+    ensures refused { result ≢ 0 → RefusesServer (λ code kept. RefusesSending code kept.server) result
+        server.old.owned.state }
 {
     if !server.full {
         return WRONG_HANDLE;
@@ -305,6 +321,7 @@ pub extern "C" fn durkenzo_server_made(
         server.old.owned.state server.new.owned.state }
     ensures counts { result ≡ 0 → KeepsState (λ new. (made.new ≡ length new.server.made.items)
         × (read.new ≡ length new.server.read.items)) server.new.owned.state }
+    ensures refused { result ≢ 0 → RefusesTexts RefusesOutcome result server.old.owned.state server.new.owned.state }
 {
     if !server.full {
         return WRONG_HANDLE;
@@ -327,6 +344,7 @@ pub extern "C" fn durkenzo_server_answer(
 ) -> u32
     ensures told { result ≡ 0 → KeepsState (λ texts. IsMadeAnswer texts at answer.new) server.old.owned.state }
     ensures unchanged { server.new.owned.state ≡ server.old.owned.state }
+    ensures refused { result ≢ 0 → RefusesServer (LacksMade at) result server.old.owned.state }
 {
     if !server.full {
         return WRONG_HANDLE;
@@ -344,6 +362,7 @@ pub extern "C" fn durkenzo_server_text(
 ) -> u32
     ensures told { result ≡ 0 → KeepsState (IsReadAnswer at answer.new into.new) server.old.owned.state }
     ensures unchanged { server.new.owned.state ≡ server.old.owned.state }
+    ensures refused { result ≢ 0 → RefusesServer (LacksRead at into.old) result server.old.owned.state }
 {
     if !server.full {
         return WRONG_HANDLE;
@@ -358,6 +377,8 @@ pub extern "C" fn durkenzo_server_text(
 pub extern "C" fn durkenzo_server_lost(alloc: Global, server: &mut ServerHandle) -> u32
     ensures made { result ≡ 0 → MakesOn server.old.owned.state (λ old input. input ≡ LostInput) IsAny
         server.new.owned.state }
+    ensures refused { result ≢ 0 → (result ≡ WRONG_HANDLE) × (server.old.owned.state ≡ None) }
+    ensures kept { result ≢ 0 → server.new.owned.state ≡ server.old.owned.state }
 {
     if !server.full {
         return WRONG_HANDLE;
@@ -375,6 +396,7 @@ pub extern "C" fn durkenzo_server_base(
 ) -> u32
     ensures made { result ≡ 0 → MakesOn server.old.owned.state (λ old input. input ≡ BaseInput)
         (λ output. is_basing output ≡ begins.new) server.new.owned.state }
+    ensures refused { result ≢ 0 → RefusesTexts RefusesMemory result server.old.owned.state server.new.owned.state }
 {
     if !server.full {
         return WRONG_HANDLE;
@@ -394,6 +416,7 @@ pub extern "C" fn durkenzo_server_part(
     ensures written { result ≡ 0 → KeepsState (λ texts.
         WritesPart texts_service reply_bytes place part.new into.new texts.server) server.old.owned.state }
     ensures unchanged { server.new.owned.state ≡ server.old.owned.state }
+    ensures refused { result ≢ 0 → RefusesServer (λ code kept. RefusesPart code) result server.old.owned.state }
 {
     if !server.full {
         return WRONG_HANDLE;
@@ -406,6 +429,8 @@ pub extern "C" fn durkenzo_server_part(
 pub extern "C" fn durkenzo_server_parts_made(alloc: Global, server: &mut ServerHandle) -> u32
     ensures made { result ≡ 0 → MakesOn server.old.owned.state (λ old input. input ≡ PartsInput) IsAny
         server.new.owned.state }
+    ensures refused { result ≢ 0 → (result ≡ WRONG_HANDLE) × (server.old.owned.state ≡ None) }
+    ensures kept { result ≢ 0 → server.new.owned.state ≡ server.old.owned.state }
 {
     if !server.full {
         return WRONG_HANDLE;
@@ -427,6 +452,8 @@ pub extern "C" fn durkenzo_server_is_behind(
     ensures made { result ≡ 0 → MakesOn server.old.owned.state
         (λ old input. input ≡ ClearInput (passing_key old.server.core.shard is_part number place))
         (λ output. is_clearing output ≡ behind.new) server.new.owned.state }
+    ensures refused { result ≢ 0 → (result ≡ WRONG_HANDLE) × (server.old.owned.state ≡ None) }
+    ensures kept { result ≢ 0 → server.new.owned.state ≡ server.old.owned.state }
 {
     if !server.full {
         return WRONG_HANDLE;
@@ -534,7 +561,8 @@ fn keys_in(
 }
 
 fn answer_in(texts: &TextServer, at: usize, answer: &mut TextAnswer) -> u32
-    ensures { result ≡ 0 → IsMadeAnswer texts.now at answer.new }
+    ensures told { result ≡ 0 → IsMadeAnswer texts.now at answer.new }
+    ensures refused { result ≢ 0 → LacksMade at result texts.now }
 {
     let Some(made) = texts.server.made.get(at) else {
         return NO_MORE;
@@ -550,7 +578,8 @@ fn answer_in(texts: &TextServer, at: usize, answer: &mut TextAnswer) -> u32
 }
 
 fn text_in(texts: &TextServer, at: usize, answer: &mut TextAnswer, into: &mut [u8]) -> u32
-    ensures { result ≡ 0 → IsReadAnswer at answer.new into.new texts.now }
+    ensures told { result ≡ 0 → IsReadAnswer at answer.new into.new texts.now }
+    ensures refused { result ≢ 0 → LacksRead at into.old result texts.now }
 {
     match texts.server.read.get(at) {
         Some(read) => tell_read(read, answer, into),
@@ -559,7 +588,8 @@ fn text_in(texts: &TextServer, at: usize, answer: &mut TextAnswer, into: &mut [u
 }
 
 fn tell_read(read: &ReadReply<TextReply>, answer: &mut TextAnswer, into: &mut [u8]) -> u32
-    ensures { result ≡ 0 → TellsRead read.now answer.new into.new }
+    ensures told { result ≡ 0 → TellsRead read.now answer.new into.new }
+    ensures refused { result ≢ 0 → LacksText into.old result read.now }
 {
     let Some(found) = &read.answer else {
         return NO_MORE;

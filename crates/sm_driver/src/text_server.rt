@@ -1,4 +1,4 @@
-ghost use Rattle.std.specs.Prelude.{◌≡◌, IfOk, IfSome, length, take};
+ghost use Rattle.std.specs.Prelude.{◌≡◌, ◌<◌, ◌↔◌, IfOk, IfSome, IsSome, length, take};
 ghost use Rattle.sm_map.specs.KeyMap.{within};
 ghost use Rattle.sm_driver.specs.Servers.{IsNewTexts, keys_held, pairs_found};
 ghost use Rattle.sm_texts.specs.Keys.{spelled_keys};
@@ -25,7 +25,8 @@ impl TextServer {
         count: u64,
         limits: ShardLimits,
     ) -> Option<TextServer>
-        ensures { IfSome result (IsNewTexts me shard count limits) }
+        ensures made { IfSome result (IsNewTexts me shard count limits) }
+        ensures exact { IsSome result ↔ shard < count }
     {
         match ByteServer::new(alloc, me, shard, count, limits) {
             Some(server) => Some(TextServer { server }),

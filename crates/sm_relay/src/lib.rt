@@ -6,7 +6,7 @@
 //! to a request is its place. A read is told how many requests were made before it, and has no text. There are no keys.
 #![tactic(auto)]
 
-ghost use Rattle.std.specs.Prelude.{◌≡◌, ◌≢◌, true, None, length};
+ghost use Rattle.std.specs.Prelude.{◌≡◌, ◌≢◌, false, true, None, length};
 ghost use Rattle.sm_codec.specs.Spelling.{head_bytes};
 ghost use Rattle.sm_shard.specs.declared.steps.ShardInput.TheVariants.{Base as BaseInput, Clear as ClearInput};
 ghost use Rattle.sm_shard.specs.declared.steps.ShardInput.TheVariants.{Flush as FlushInput, Lost as LostInput};
@@ -14,12 +14,16 @@ ghost use Rattle.sm_shard.specs.declared.steps.ShardInput.TheVariants.{PartsMade
 ghost use Rattle.sm_shard.specs.Decisions.{batches_made, clients_kept};
 ghost use Rattle.sm_shard_bytes.specs.Calls.{Between, IsDecidedAs, IsRequestInput, KeepsState, WritesPart};
 ghost use Rattle.sm_shard_bytes.specs.Calls.{WritesSending, is_decided};
+ghost use Rattle.sm_shard_bytes.specs.Refusals.{IsUnmade, LeavesState, RefusesAppend, RefusesBytes};
+ghost use Rattle.sm_shard_bytes.specs.Refusals.{RefusesMemory, RefusesOutcome, RefusesPart, RefusesReadAll};
+ghost use Rattle.sm_shard_bytes.specs.Refusals.{RefusesRequest, RefusesSending, RefusesServer};
 ghost use Rattle.sm_shard_bytes.specs.Replies.{place_bytes};
 ghost use Rattle.sm_shard_bytes.specs.Servers.{AddsBatch, AddsPart, IsAny, IsAppending, IsReading, IsRecordReading};
 ghost use Rattle.sm_shard_bytes.specs.Servers.{TellsAnswers, is_basing, is_clearing, is_sending, passing_key};
 ghost use Rattle.sm_shard_bytes.specs.Servers.{request_size};
 ghost use Rattle.sm_opaque.specs.Opaque.{only_reads, opaque_service};
-ghost use Rattle.sm_relay.specs.Calls.{IsPlaceMade, IsPlaceRead, RelaysOn, TellsPlace};
+ghost use Rattle.sm_relay.specs.Calls.{IsPlaceMade, IsPlaceRead, LacksPlace, LacksPlaceRead, RefusesRelay};
+ghost use Rattle.sm_relay.specs.Calls.{RelaysOn, TellsPlace};
 ghost use Rattle.sm_relay.specs.Relays.{IsNewRelay, requests_made};
 
 mod owned_relay;
@@ -34,7 +38,9 @@ use sm_opaque::is_read;
 use sm_ranges::server_id::ServerId;
 use sm_ranges::shard_id::ShardId;
 use sm_shard::{ReadReply, ShardLimits};
-use sm_shard_bytes::codes::{BAD_ARGUMENT, NO_MEMORY, NO_MORE, UNKNOWN_SHARD, WRONG_HANDLE};
+use sm_shard_bytes::codes::{
+    BAD_ARGUMENT, BAD_BYTES, NO_MEMORY, NO_MORE, UNKNOWN_SHARD, WRONG_HANDLE,
+};
 use sm_shard_bytes::{ForwardNumbers, LogHead, PartNumbers, SentNumbers, calls};
 use std::alloc::Global;
 
@@ -60,6 +66,7 @@ pub extern "C" fn durkenzo_relay(
       clients = clients;
     })) relay.new.owned.state }
     ensures kept { result ≢ 0 → relay.new.owned.state ≡ relay.old.owned.state }
+    ensures refused { result ≢ 0 → IsUnmade me shard count result }
 {
     let Some(me) = ServerId::new(me) else {
         return BAD_ARGUMENT;
@@ -90,6 +97,7 @@ pub extern "C" fn durkenzo_relay_batch(alloc: Global, relay: &mut RelayHandle, b
         × (new.server.parts ≡ old.server.parts)
         × AddsBatch old.server.batches.items bytes.now new.server.batches.items)
         relay.old.owned.state relay.new.owned.state }
+    ensures refused { result ≢ 0 → RefusesRelay RefusesBytes result relay.old.owned.state relay.new.owned.state }
 {
     if !relay.full {
         return WRONG_HANDLE;
@@ -108,6 +116,7 @@ pub extern "C" fn durkenzo_relay_part_read(
         × (new.server.batches ≡ old.server.batches)
         × AddsPart place_bytes old.server.parts.items bytes.now new.server.parts.items)
         relay.old.owned.state relay.new.owned.state }
+    ensures refused { result ≢ 0 → RefusesRelay RefusesBytes result relay.old.owned.state relay.new.owned.state }
 {
     if !relay.full {
         return WRONG_HANDLE;
@@ -118,11 +127,12 @@ pub extern "C" fn durkenzo_relay_part_read(
 /// Reads the bytes at a log's head, which tell the batches and parts that must be read.
 #[unsafe(no_mangle)]
 pub extern "C" fn durkenzo_relay_log_head(bytes: &[u8], head: &mut LogHead) -> u32
-    ensures { result ≡ 0 → bytes.now ≡ head_bytes (record {
+    ensures read { result ≡ 0 → bytes.now ≡ head_bytes (record {
       batches = head.new.batches;
       base = head.new.base;
       parts = head.new.parts;
     }) }
+    ensures refused { result ≢ 0 → (result ≡ BAD_BYTES) × (head.new ≡ head.old) }
 {
     calls::log_head(bytes, head)
 }
@@ -140,6 +150,7 @@ pub extern "C" fn durkenzo_relay_read(
 ) -> u32
     ensures made { result ≡ 0 → RelaysOn relay.old.owned.state
         (λ old. IsReading old.server standing.now stood head.now logged) IsAny relay.new.owned.state }
+    ensures refused { result ≢ 0 → RefusesRelay RefusesReadAll result relay.old.owned.state relay.new.owned.state }
 {
     if !relay.full {
         return WRONG_HANDLE;
@@ -162,6 +173,7 @@ pub extern "C" fn durkenzo_relay_append(
 ) -> u32
     ensures made { result ≡ 0 → RelaysOn relay.old.owned.state
         (λ old. IsAppending old.server standing.now stood head.now logged) IsAny relay.new.owned.state }
+    ensures refused { result ≢ 0 → RefusesRelay RefusesAppend result relay.old.owned.state relay.new.owned.state }
 {
     if !relay.full {
         return WRONG_HANDLE;
@@ -197,6 +209,7 @@ pub extern "C" fn durkenzo_relay_record(
 ) -> u32
     ensures made { result ≡ 0 → RelaysOn relay.old.owned.state (λ old. IsRecordReading standing.now stood) IsAny
         relay.new.owned.state }
+    ensures refused { result ≢ 0 → RefusesRelay RefusesBytes result relay.old.owned.state relay.new.owned.state }
 {
     if !relay.full {
         return WRONG_HANDLE;
@@ -223,6 +236,9 @@ pub extern "C" fn durkenzo_relay_take(
     ensures decided { is_decided result ≡ true → RelaysOn relay.old.owned.state
         (λ old. IsRequestInput (only_reads request.now) client number from hops forgets request.now)
         (IsDecidedAs result place.new forward.new) relay.new.owned.state }
+    ensures refused { is_decided result ≡ false → LeavesState
+        (λ code old new. RefusesRequest from code old.server new.server) result
+        relay.old.owned.state relay.new.owned.state }
 {
     if !relay.full {
         return WRONG_HANDLE;
@@ -253,6 +269,7 @@ pub extern "C" fn durkenzo_relay_flush(
 ) -> u32
     ensures made { result ≡ 0 → RelaysOn relay.old.owned.state (λ old input. input ≡ FlushInput)
         (λ output. is_sending output ≡ sends.new) relay.new.owned.state }
+    ensures refused { result ≢ 0 → RefusesRelay RefusesMemory result relay.old.owned.state relay.new.owned.state }
 {
     if !relay.full {
         return WRONG_HANDLE;
@@ -272,6 +289,8 @@ pub extern "C" fn durkenzo_relay_sending(
     ensures written { result ≡ 0 → KeepsState (λ relay.
         WritesSending opaque_service numbers.new into.new relay.server) relay.old.owned.state }
     ensures unchanged { relay.new.owned.state ≡ relay.old.owned.state }
+    ensures refused { result ≢ 0 → RefusesServer (λ code kept. RefusesSending code kept.server) result
+        relay.old.owned.state }
 {
     if !relay.full {
         return WRONG_HANDLE;
@@ -294,6 +313,7 @@ pub extern "C" fn durkenzo_relay_made(
         relay.old.owned.state relay.new.owned.state }
     ensures counts { result ≡ 0 → KeepsState (λ new. (made.new ≡ length new.server.made.items)
         × (read.new ≡ length new.server.read.items)) relay.new.owned.state }
+    ensures refused { result ≢ 0 → RefusesRelay RefusesOutcome result relay.old.owned.state relay.new.owned.state }
 {
     if !relay.full {
         return WRONG_HANDLE;
@@ -316,6 +336,7 @@ pub extern "C" fn durkenzo_relay_answer(
 ) -> u32
     ensures told { result ≡ 0 → KeepsState (IsPlaceMade at answer.new) relay.old.owned.state }
     ensures unchanged { relay.new.owned.state ≡ relay.old.owned.state }
+    ensures refused { result ≢ 0 → RefusesServer (LacksPlace at) result relay.old.owned.state }
 {
     if !relay.full {
         return WRONG_HANDLE;
@@ -333,6 +354,7 @@ pub extern "C" fn durkenzo_relay_read_answer(
 ) -> u32
     ensures told { result ≡ 0 → KeepsState (IsPlaceRead at answer.new) relay.old.owned.state }
     ensures unchanged { relay.new.owned.state ≡ relay.old.owned.state }
+    ensures refused { result ≢ 0 → RefusesServer (LacksPlaceRead at) result relay.old.owned.state }
 {
     if !relay.full {
         return WRONG_HANDLE;
@@ -347,6 +369,8 @@ pub extern "C" fn durkenzo_relay_read_answer(
 pub extern "C" fn durkenzo_relay_lost(alloc: Global, relay: &mut RelayHandle) -> u32
     ensures made { result ≡ 0 → RelaysOn relay.old.owned.state (λ old input. input ≡ LostInput) IsAny
         relay.new.owned.state }
+    ensures refused { result ≢ 0 → (result ≡ WRONG_HANDLE) × (relay.old.owned.state ≡ None) }
+    ensures kept { result ≢ 0 → relay.new.owned.state ≡ relay.old.owned.state }
 {
     if !relay.full {
         return WRONG_HANDLE;
@@ -364,6 +388,7 @@ pub extern "C" fn durkenzo_relay_base(
 ) -> u32
     ensures made { result ≡ 0 → RelaysOn relay.old.owned.state (λ old input. input ≡ BaseInput)
         (λ output. is_basing output ≡ begins.new) relay.new.owned.state }
+    ensures refused { result ≢ 0 → RefusesRelay RefusesMemory result relay.old.owned.state relay.new.owned.state }
 {
     if !relay.full {
         return WRONG_HANDLE;
@@ -383,6 +408,7 @@ pub extern "C" fn durkenzo_relay_part(
     ensures written { result ≡ 0 → KeepsState (λ relay.
         WritesPart opaque_service place_bytes place part.new into.new relay.server) relay.old.owned.state }
     ensures unchanged { relay.new.owned.state ≡ relay.old.owned.state }
+    ensures refused { result ≢ 0 → RefusesServer (λ code kept. RefusesPart code) result relay.old.owned.state }
 {
     if !relay.full {
         return WRONG_HANDLE;
@@ -395,6 +421,8 @@ pub extern "C" fn durkenzo_relay_part(
 pub extern "C" fn durkenzo_relay_parts_made(alloc: Global, relay: &mut RelayHandle) -> u32
     ensures made { result ≡ 0 → RelaysOn relay.old.owned.state (λ old input. input ≡ PartsInput) IsAny
         relay.new.owned.state }
+    ensures refused { result ≢ 0 → (result ≡ WRONG_HANDLE) × (relay.old.owned.state ≡ None) }
+    ensures kept { result ≢ 0 → relay.new.owned.state ≡ relay.old.owned.state }
 {
     if !relay.full {
         return WRONG_HANDLE;
@@ -416,6 +444,8 @@ pub extern "C" fn durkenzo_relay_is_behind(
     ensures made { result ≡ 0 → RelaysOn relay.old.owned.state
         (λ old input. input ≡ ClearInput (passing_key old.server.core.shard is_part number place))
         (λ output. is_clearing output ≡ behind.new) relay.new.owned.state }
+    ensures refused { result ≢ 0 → (result ≡ WRONG_HANDLE) × (relay.old.owned.state ≡ None) }
+    ensures kept { result ≢ 0 → relay.new.owned.state ≡ relay.old.owned.state }
 {
     if !relay.full {
         return WRONG_HANDLE;
@@ -464,7 +494,8 @@ pub extern "C" fn durkenzo_relay_close(alloc: Global, relay: &mut RelayHandle)
 
 // Writes the answer at this place to a request that was made.
 fn answer_in(relay: &RelayServer, at: usize, answer: &mut PlaceAnswer) -> u32
-    ensures { result ≡ 0 → IsPlaceMade at answer.new relay.now }
+    ensures told { result ≡ 0 → IsPlaceMade at answer.new relay.now }
+    ensures refused { result ≢ 0 → LacksPlace at result relay.now }
 {
     let Some(made) = relay.server.made.get(at) else {
         return NO_MORE;
@@ -479,7 +510,8 @@ fn answer_in(relay: &RelayServer, at: usize, answer: &mut PlaceAnswer) -> u32
 
 // Writes the answer at this place to a read.
 fn read_in(relay: &RelayServer, at: usize, answer: &mut PlaceAnswer) -> u32
-    ensures { result ≡ 0 → IsPlaceRead at answer.new relay.now }
+    ensures told { result ≡ 0 → IsPlaceRead at answer.new relay.now }
+    ensures refused { result ≢ 0 → LacksPlaceRead at result relay.now }
 {
     match relay.server.read.get(at) {
         Some(read) => tell_read(read, answer),
@@ -488,7 +520,8 @@ fn read_in(relay: &RelayServer, at: usize, answer: &mut PlaceAnswer) -> u32
 }
 
 fn tell_read(read: &ReadReply<u64>, answer: &mut PlaceAnswer) -> u32
-    ensures { result ≡ 0 → TellsPlace read.now answer.new }
+    ensures told { result ≡ 0 → TellsPlace read.now answer.new }
+    ensures refused { result ≢ 0 → (result ≡ NO_MORE) × (read.now.answer ≡ None) }
 {
     let Some(found) = &read.answer else {
         return NO_MORE;

@@ -1,4 +1,4 @@
-ghost use Rattle.std.specs.Prelude.{◌≡◌, IfSome};
+ghost use Rattle.std.specs.Prelude.{◌≡◌, ◌<◌, ◌↔◌, IfSome, IsSome};
 ghost use Rattle.sm_relay.specs.Relays.{IsNewRelay, requests_made};
 
 use sm_opaque::OpaqueMachine;
@@ -24,7 +24,8 @@ impl RelayServer {
         count: u64,
         limits: ShardLimits,
     ) -> Option<RelayServer>
-        ensures { IfSome result (IsNewRelay me shard count limits) }
+        ensures made { IfSome result (IsNewRelay me shard count limits) }
+        ensures exact { IsSome result ↔ shard < count }
     {
         match ByteServer::new(alloc, me, shard, count, limits) {
             Some(server) => Some(RelayServer { server }),

@@ -5,6 +5,7 @@ mod Fleets
 pub mod Lasts
 pub mod LogReads
 pub mod Replicas
+pub mod Refused
 pub mod Replies
 pub mod ShardServers
 pub mod StoreServers

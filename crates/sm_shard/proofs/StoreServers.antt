@@ -1,13 +1,13 @@
 -- All shards of one server: one more, and one that makes a step.
 use Rattle.std.proofs.Common.{◌≡◌, ◌<◌, ℕ, zero, suc, ◌+◌, List, [], ◌∷◌, ◌++◌, length, refl, sym, ap, subst, ◌∙◌}
 use Rattle.std.proofs.Common.{arith, length-append}
-use Rattle.std.specs.Prelude.{Some, Result, IfOk, OnOk, slice_get, slice_index_or, slice_set}
+use Rattle.std.specs.Prelude.{Some, Result, IfErr, IfOk, OnOk, slice_get, slice_index_or, slice_set}
 use Rattle.sm_store.specs.Clients.{Automaton}
 use Rattle.sm_shard.specs.declared.replica.ReplayFault.{ReplayFault}
 use Rattle.sm_shard.specs.declared.shard_server.ShardServer.{ShardServer}
 use Rattle.sm_shard.specs.declared.steps.ShardInput.{ShardInput}
 use Rattle.sm_shard.specs.declared.steps.ShardOutput.{ShardOutput}
-use Rattle.sm_shard.specs.Steps.{IsCaughtUp, IsOutputOf, IsStepOf, KeepsAsked}
+use Rattle.sm_shard.specs.Steps.{IsCaughtUp, IsOutputOf, IsRefusedOn, IsStepOf, KeepsAsked}
 use Rattle.sm_shard.specs.StoreServers.{AreAllShards, AreShardsFrom, IsAtShard, IsStoreStep}
 
 -- the borrowed element of a list is the one at the place
@@ -80,10 +80,11 @@ pub stepped : {M Q R : Type 0} (service : Automaton M Q R) (size : Q → ℕ)
     → place ≡ shard → shard < length olds → old ≡ slice_index_or olds place old
     → IfOk result (IsOutputOf service size old input) → IsStepOf service old input result new
     → KeepsAsked old input result new → OnOk result (IsCaughtUp old input new)
+    → IfErr result (λ fault. IsRefusedOn old input fault new)
     → new.me ≡ old.me → new.shard ≡ old.shard → new.count ≡ old.count → new.limits ≡ old.limits
     → IsStoreStep service size olds shard input result (slice_set olds place new)
 stepped {M} {Q} {R} service size olds shard place old new input result same within is exact call asked_for caught_up
-    me_is shard_is count_is limits_is = record {
+    refused me_is shard_is count_is limits_is = record {
       old = old;
       new = new;
       was = found_at olds shard old within (subst (λ (k : ℕ). old ≡ slice_index_or olds k old) same is);
@@ -92,6 +93,7 @@ stepped {M} {Q} {R} service size olds shard place old new input result same with
       call = call;
       asked_for = asked_for;
       caught_up = caught_up;
+      refused = refused;
       me = me_is;
       shard_is = shard_is;
       count = count_is;

@@ -183,6 +183,26 @@ pub record IsUnflushed {M Q R : Type 0} (old new : ShardState M Q R) : Type 0 wh
   pub asking : new.asking.items ≡ old.asking.items
   pub work : new.work ≡ old.work
 
+-- the state is as it was
+pub record IsSameState {M Q R : Type 0} (old new : ShardState M Q R) : Type 0 where
+  pub state : new.state ≡ old.state
+  pub stood : new.stood ≡ old.stood
+  pub replica : new.replica ≡ old.replica
+  pub head : new.head ≡ old.head
+  pub logged : new.logged ≡ old.logged
+  pub sent : new.sent.items ≡ old.sent.items
+  pub waiting : new.waiting.items ≡ old.waiting.items
+  pub carried : new.carried.items ≡ old.carried.items
+  pub asking : new.asking.items ≡ old.asking.items
+  pub work : new.work ≡ old.work
+  pub decides : new.decides ≡ old.decides
+
+-- the server has read nothing yet, as before, or its state is as it was
+abbrev pub IsAsReady : {M Q R : Type 0} → Option (ShardState M Q R) → Option (ShardState M Q R) → Type 0
+IsAsReady None None = Unit {0}
+IsAsReady (Some old) (Some new) = IsSameState old new
+IsAsReady old new = ⊥
+
 -- the claims of a decision to its request's client
 abbrev pub claimed_by : {Q R : Type 0} → ℕ → Item Q → Decision R → List (Claim Q R)
 claimed_by shard item (Replied answer) = Replies shard item.client item.number item.request answer ∷ []

@@ -14,6 +14,7 @@ use Rattle.sm_store.specs.Linear.{AsksFor}
 use Rattle.sm_store.specs.System.{Ask, Claim, MayClaim}
 use Rattle.sm_store.specs.Whole.{AreBatches, AreParts}
 use Rattle.sm_shard.specs.declared.replica.ReplayFault.{ReplayFault}
+use Rattle.sm_shard.specs.declared.replica.ReplayFault.TheVariants.{Memory}
 use Rattle.sm_shard.specs.declared.shard_server.ShardServer.{ShardServer}
 use Rattle.sm_shard.specs.declared.shard_server.StoreAnswers.{StoreAnswers}
 use Rattle.sm_shard.specs.declared.shard_server.Undecided.{Undecided}
@@ -29,8 +30,8 @@ use Rattle.sm_shard.specs.declared.steps.ShardOutput.TheVariants.{Clears}
 use Rattle.sm_shard.specs.Decisions.{server_begins, server_behind, server_decides, server_decision}
 use Rattle.sm_shard.specs.Decisions.{server_read_decision, server_sends, server_settled}
 use Rattle.sm_shard.specs.Replicas.{read_of, replies_of, told_read}
-use Rattle.sm_shard.specs.ShardServers.{AreAsked, AreRequestsAsked, AreWritten, DidHold, IsAsked, IsTrueOf, StoreLog}
-use Rattle.sm_shard.specs.ShardServers.{StoreSystem}
+use Rattle.sm_shard.specs.ShardServers.{AreAsked, AreRequestsAsked, AreWritten, DidHold, IsAsReady, IsAsked, IsTrueOf}
+use Rattle.sm_shard.specs.ShardServers.{StoreLog, StoreSystem}
 use Rattle.sm_shard.specs.ShardServers.{WereMade, basing_by, claimed_all, claimed_by, claimed_reads, sent_transaction}
 
 -- the claims of a decision about an input to its client
@@ -209,3 +210,19 @@ IsCaughtUp old (Append state stood head logged batches) new = IsSomeAnd new.read
 IsCaughtUp old (RecordRead state stood) new = server_decides new.ready ≡ server_settled old.ready
 IsCaughtUp old Lost new = server_decides new.ready ≡ false
 IsCaughtUp old input new = Unit {0}
+
+-- why such a step is refused, and what the server knows then: it is as it was if memory was refused for what waits, and
+-- it has read nothing if it can't follow the log; the other steps are never refused
+abbrev pub IsRefusedOn : {M Q R : Type 0} → ShardServer M Q R → ShardInput Q R → ReplayFault → ShardServer M Q R
+    → Type 0
+IsRefusedOn old (Read state stood head logged parts batches) fault new = new.ready ≡ None
+IsRefusedOn old (Append state stood head logged batches) fault new = new.ready ≡ None
+IsRefusedOn old (Made revision) fault new = new.ready ≡ None
+IsRefusedOn old (Request item) fault new = (fault ≡ Memory) × IsAsReady old.ready new.ready
+IsRefusedOn old (Question item) fault new = (fault ≡ Memory) × IsAsReady old.ready new.ready
+IsRefusedOn old Flush fault new = (fault ≡ Memory) × IsAsReady old.ready new.ready
+IsRefusedOn old Base fault new = (fault ≡ Memory) × IsAsReady old.ready new.ready
+IsRefusedOn old (RecordRead state stood) fault new = ⊥
+IsRefusedOn old Lost fault new = ⊥
+IsRefusedOn old PartsMade fault new = ⊥
+IsRefusedOn old (Clear key) fault new = ⊥

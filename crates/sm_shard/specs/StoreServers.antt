@@ -1,11 +1,11 @@
 -- All shards of one server: each is a server of its own, by the law of all servers.
-use Rattle.std.specs.Prelude.{ℕ, ◌+◌, Some, Result, IfOk, OnOk, ◌≡◌, List, [], ◌∷◌, length, slice_get, slice_set}
+use Rattle.std.specs.Prelude.{ℕ, ◌+◌, Some, Result, IfErr, IfOk, OnOk, ◌≡◌, List, [], ◌∷◌, length, slice_get, slice_set}
 use Rattle.sm_store.specs.Clients.{Automaton}
 use Rattle.sm_shard.specs.declared.replica.ReplayFault.{ReplayFault}
 use Rattle.sm_shard.specs.declared.shard_server.ShardServer.{ShardServer}
 use Rattle.sm_shard.specs.declared.steps.ShardInput.{ShardInput}
 use Rattle.sm_shard.specs.declared.steps.ShardOutput.{ShardOutput}
-use Rattle.sm_shard.specs.Steps.{IsCaughtUp, IsOutputOf, IsStepOf, KeepsAsked}
+use Rattle.sm_shard.specs.Steps.{IsCaughtUp, IsOutputOf, IsRefusedOn, IsStepOf, KeepsAsked}
 
 -- it is this server's state for this shard, of so many shards
 pub record IsAtShard {M Q R : Type 0} (me count shard : ℕ) (server : ShardServer M Q R) : Type 0 where
@@ -37,6 +37,7 @@ pub record IsStoreStep {M Q R : Type 0} (service : Automaton M Q R) (size : Q �
   pub call : IsStepOf service old input result new
   pub asked_for : KeepsAsked old input result new
   pub caught_up : OnOk result (IsCaughtUp old input new)
+  pub refused : IfErr result (λ fault. IsRefusedOn old input fault new)
   pub me : new.me ≡ old.me
   pub shard_is : new.shard ≡ old.shard
   pub count : new.count ≡ old.count

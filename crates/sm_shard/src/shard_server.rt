@@ -85,8 +85,8 @@ impl<Q: Drop, R: Copy + Drop, M: StoreMachine<Q, R>> ShardServer<M, Q, R> {
     ghost use Rattle.sm_shard.specs.Decisions.{server_settled};
     ghost use Rattle.sm_shard.specs.declared.shard_state.Decision.TheVariants.{TooManyClients};
     ghost use Rattle.sm_shard.specs.Replicas.{read_of, replies_of, told_read};
-    ghost use Rattle.sm_shard.specs.ShardServers.{AreAsked, AreRequestsAsked, DidHold, IsAsked, IsTrueOf, StoreLog};
-    ghost use Rattle.sm_shard.specs.ShardServers.{StoreSystem};
+    ghost use Rattle.sm_shard.specs.ShardServers.{AreAsked, AreRequestsAsked, DidHold, IsAsReady, IsAsked, IsTrueOf};
+    ghost use Rattle.sm_shard.specs.ShardServers.{StoreLog, StoreSystem};
     ghost use Rattle.sm_shard.specs.ShardServers.{WereMade, claimed_all, claimed_by, claimed_reads};
     ghost use Rattle.sm_shard.specs.ShardServers.{AreWritten, basing_by, parts_transactions, sending_transaction};
     ghost use Rattle.sm_shard.specs.ShardServers.{sent_transaction};
@@ -143,6 +143,7 @@ impl<Q: Drop, R: Copy + Drop, M: StoreMachine<Q, R>> ShardServer<M, Q, R> {
             → IsLogRead log self.old.shard head logged parts.now (map (λ batch. batch.items) batches.now)
             → IsTrueOf M.service log self.new }
         ensures read { OnOk result (IsSomeAnd self.new.ready (GoesBy state stood head logged)) }
+        ensures refused { OnErr result (self.new.ready ≡ None) }
         ensures asked { (asked : List (Ask Q)) (since : ℕ) → AreAsked asked since self.new }
         ensures asked_for { (asked : List (Ask Q)) → AreRequestsAsked asked self.new }
     {
@@ -230,6 +231,7 @@ impl<Q: Drop, R: Copy + Drop, M: StoreMachine<Q, R>> ShardServer<M, Q, R> {
         // A request that forgets enough clients isn't refused for that.
         ensures crowded { IfOk result (λ decision. decision ≡ TooManyClients → IfSome self.old.ready (λ ready.
             self.old.limits.clients ≤ length (kept_from item.forgets ready.replica.lasts.entries))) }
+        ensures refused { OnErr result (IsAsReady self.old.ready self.new.ready) }
         ensures told { IfOk result (λ decision. (system : StoreSystem Q R)
             → IsTrueOf M.service system.log self.old
             → AllByRecursion (MayClaim M.service system) (claimed_by self.old.shard item decision)) }
@@ -260,6 +262,7 @@ impl<Q: Drop, R: Copy + Drop, M: StoreMachine<Q, R>> ShardServer<M, Q, R> {
             → AreRequestsAsked asked self.new }
         ensures decision { IfOk result (λ decision. decision
             ≡ server_read_decision self.old.limits self.old.ready self.old.me item) }
+        ensures refused { OnErr result (IsAsReady self.old.ready self.new.ready) }
     {
         let (me, limits) = (self.me, self.limits);
         match &mut self.ready {
@@ -290,6 +293,7 @@ impl<Q: Drop, R: Copy + Drop, M: StoreMachine<Q, R>> ShardServer<M, Q, R> {
             → AreAsked asked since self.new) }
         ensures asked_for { (asked : List (Ask Q)) → AreRequestsAsked asked self.old
             → AreRequestsAsked asked self.new }
+        ensures refused { OnErr result (IsAsReady self.old.ready self.new.ready) }
     {
         let limits = self.limits;
         match &mut self.ready {
@@ -306,6 +310,7 @@ impl<Q: Drop, R: Copy + Drop, M: StoreMachine<Q, R>> ShardServer<M, Q, R> {
             → charter.count ≡ self.now.count → charter.parts ≡ base_of M.service
             → IsTrueOf M.service log self.now
             → MaySend charter log (sending_transaction sending)) }
+        ensures none { IfNone result (self.now.ready ≡ None) }
     {
         match &self.ready {
             Some(ready) => Some(BatchSending {
@@ -331,6 +336,7 @@ impl<Q: Drop, R: Copy + Drop, M: StoreMachine<Q, R>> ShardServer<M, Q, R> {
         ensures known { (log : StoreLog Q R) → IsRising log → IsTrueOf M.service log self.old
             → IfSome self.old.ready (λ ready. WereMade log self.old.me self.old.shard revision ready)
             → IsTrueOf M.service log self.new }
+        ensures refused { OnErr result (self.new.ready ≡ None) }
         ensures asked { (asked : List (Ask Q)) (since : ℕ) → AreAsked asked since self.old
             → AreAsked asked since self.new }
         ensures asked_for { (asked : List (Ask Q)) → AreRequestsAsked asked self.old
@@ -417,6 +423,7 @@ impl<Q: Drop, R: Copy + Drop, M: StoreMachine<Q, R>> ShardServer<M, Q, R> {
         ensures asked_for { (asked : List (Ask Q)) → AreRequestsAsked asked self.old
             → AreRequestsAsked asked self.new }
         ensures exact { IfOk result (λ begun. begun ≡ server_begins self.old.ready) }
+        ensures refused { OnErr result (IsAsReady self.old.ready self.new.ready) }
     {
         match &mut self.ready {
             Some(ready) => begin_base(alloc, ready),

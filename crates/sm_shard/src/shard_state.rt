@@ -213,7 +213,9 @@ pub fn take<Q: Drop, R: Copy + Drop, M: StoreMachine<Q, R>>(
     ensures sent { ready.new.sent ≡ ready.old.sent }
     ensures carried { ready.new.carried ≡ ready.old.carried }
     ensures asking { ready.new.asking ≡ ready.old.asking }
+    ensures replica { ready.new.replica ≡ ready.old.replica }
     ensures work { ready.new.work ≡ ready.old.work }
+    ensures decides { ready.new.decides ≡ ready.old.decides }
     ensures decision { IfOk result (λ decision. decision ≡ decision_of limits M.size ready.old me item) }
     ensures waiting { OnOk result (ready.new.waiting.items ≡ waiting_after limits M.size ready.old me item) }
     ensures err { OnErr result (ready.new.waiting.items ≡ ready.old.waiting.items) }
@@ -268,7 +270,9 @@ pub fn ask<Q: Drop, R: Copy + Drop, M: StoreMachine<Q, R>>(
     ensures sent { ready.new.sent ≡ ready.old.sent }
     ensures waiting { ready.new.waiting ≡ ready.old.waiting }
     ensures carried { ready.new.carried ≡ ready.old.carried }
+    ensures replica { ready.new.replica ≡ ready.old.replica }
     ensures work { ready.new.work ≡ ready.old.work }
+    ensures decides { ready.new.decides ≡ ready.old.decides }
     ensures decision { IfOk result (λ decision. decision ≡ read_decision_of limits ready.old me item) }
     ensures asking { OnOk result (ready.new.asking.items ≡ asking_after limits ready.old me item) }
     ensures err { OnErr result (ready.new.asking.items ≡ ready.old.asking.items) }
@@ -409,6 +413,8 @@ pub fn flush<Q: Drop, R: Copy + Drop, M: StoreMachine<Q, R>>(
     ensures stood { ready.new.stood ≡ ready.old.stood }
     ensures head { ready.new.head ≡ ready.old.head }
     ensures logged { ready.new.logged ≡ ready.old.logged }
+    ensures replica { ready.new.replica ≡ ready.old.replica }
+    ensures decides { ready.new.decides ≡ ready.old.decides }
     ensures kept { (me : ℕ) (before : List (ItemValue Q)) → IsShardState M.service me before ready.old
         → IsShardState M.service me before ready.new }
     ensures base { (log : StoreLog Q R) (shard : ℕ)

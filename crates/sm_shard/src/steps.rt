@@ -1,5 +1,5 @@
-ghost use Rattle.std.specs.Prelude.{◌≡◌, IfOk, OnOk};
-ghost use Rattle.sm_shard.specs.Steps.{IsCaughtUp, IsOutputOf, IsStepOf, KeepsAsked};
+ghost use Rattle.std.specs.Prelude.{◌≡◌, IfErr, IfOk, OnOk};
+ghost use Rattle.sm_shard.specs.Steps.{IsCaughtUp, IsOutputOf, IsRefusedOn, IsStepOf, KeepsAsked};
 
 use crate::base_part::BasePart;
 use crate::replica::ReplayFault;
@@ -90,6 +90,7 @@ pub fn step<Q: Drop, R: Copy + Drop, M: StoreMachine<Q, R>>(
     ensures call { IsStepOf M.service server.old input.entry result server.new }
     ensures asked_for { KeepsAsked server.old input.entry result server.new }
     ensures caught_up { OnOk result (IsCaughtUp server.old input.entry server.new) }
+    ensures refused { IfErr result (λ fault. IsRefusedOn server.old input.entry fault server.new) }
 {
     match input {
         ShardInput::Read {

@@ -1,8 +1,10 @@
-ghost use Rattle.std.specs.Prelude.{◌≡◌, [], IfOk, IfSome, OnOk};
+ghost use Rattle.std.specs.Prelude.{◌≡◌, ◌<◌, ◌↔◌, [], IfErr, IfOk, IfSome, IsOk, IsSome, OnOk};
 ghost use Rattle.sm_shard.specs.declared.steps.ShardInput.TheVariants.{Base as BaseInput, Clear as ClearInput};
 ghost use Rattle.sm_shard.specs.declared.steps.ShardInput.TheVariants.{Flush as FlushInput, Lost as LostInput};
 ghost use Rattle.sm_shard.specs.declared.steps.ShardInput.TheVariants.{PartsMade as PartsInput};
 ghost use Rattle.sm_shard.specs.declared.steps.ShardOutput.TheVariants.{Decided};
+ghost use Rattle.sm_shard_bytes.specs.Refusals.{CannotSend, IsOfBytes, IsWithoutBytes, RefusesAppend};
+ghost use Rattle.sm_shard_bytes.specs.Refusals.{RefusesBytes, RefusesMemory, RefusesOutcome, RefusesReadAll};
 ghost use Rattle.sm_shard_bytes.specs.Servers.{AddsBatch, AddsPart, DoneOn, IsAny, IsAppending, IsComing, IsNewServer};
 ghost use Rattle.sm_shard_bytes.specs.Servers.{IsPartOf, IsReading, IsRecordReading, SpellsSending, TellsAnswers};
 ghost use Rattle.sm_shard_bytes.specs.Servers.{is_basing, is_clearing, is_sending};
@@ -47,7 +49,8 @@ impl<R: ReplyBytes, M: StoreMachine<Vec<u8>, R>> ByteServer<M, R> {
         count: u64,
         limits: ShardLimits,
     ) -> Option<ByteServer<M, R>>
-        ensures { IfSome result (IsNewServer M.service me shard count limits) }
+        ensures made { IfSome result (IsNewServer M.service me shard count limits) }
+        ensures exact { IsSome result ↔ shard < count }
     {
         match ShardServer::new(me, shard, count, limits) {
             Some(core) => Some(ByteServer {
@@ -66,6 +69,7 @@ impl<R: ReplyBytes, M: StoreMachine<Vec<u8>, R>> ByteServer<M, R> {
         ensures core { self.new.core ≡ self.old.core }
         ensures parts { self.new.parts ≡ self.old.parts }
         ensures added { OnOk result (AddsBatch self.old.batches.items bytes.now self.new.batches.items) }
+        ensures refused { IfErr result (λ fault. RefusesBytes fault self.old self.new) }
     {
         match read_batch(alloc, bytes) {
             Ok(batch) => {
@@ -81,6 +85,7 @@ impl<R: ReplyBytes, M: StoreMachine<Vec<u8>, R>> ByteServer<M, R> {
         ensures core { self.new.core ≡ self.old.core }
         ensures batches { self.new.batches ≡ self.old.batches }
         ensures added { OnOk result (AddsPart R.spelled self.old.parts.items bytes.now self.new.parts.items) }
+        ensures refused { IfErr result (λ fault. RefusesBytes fault self.old self.new) }
     {
         match read_base_part(alloc, bytes) {
             Ok(Some(part)) => {
@@ -104,6 +109,7 @@ impl<R: ReplyBytes, M: StoreMachine<Vec<u8>, R>> ByteServer<M, R> {
     ) -> Result<(), ServerFault>
         ensures read { OnOk result (DoneOn M.service M.size self.old
             (IsReading self.old standing.now stood head.now logged) IsAny self.new) }
+        ensures refused { IfErr result (λ fault. RefusesReadAll fault self.old self.new) }
     {
         let parts = std::mem::replace(&mut self.parts, Vec::new(alloc));
         let batches = std::mem::replace(&mut self.batches, Vec::new(alloc));
@@ -140,6 +146,7 @@ impl<R: ReplyBytes, M: StoreMachine<Vec<u8>, R>> ByteServer<M, R> {
     ) -> Result<(), ServerFault>
         ensures read { OnOk result (DoneOn M.service M.size self.old
             (IsAppending self.old standing.now stood head.now logged) IsAny self.new) }
+        ensures refused { IfErr result (λ fault. RefusesAppend fault self.old self.new) }
     {
         let batches = std::mem::replace(&mut self.batches, Vec::new(alloc));
         let stored = match read_record(standing) {
@@ -165,6 +172,7 @@ impl<R: ReplyBytes, M: StoreMachine<Vec<u8>, R>> ByteServer<M, R> {
     pub fn record(&mut self, alloc: Global, standing: &[u8], stood: u64) -> Result<(), ServerFault>
         ensures read { OnOk result (DoneOn M.service M.size self.old
             (IsRecordReading standing.now stood) IsAny self.new) }
+        ensures refused { IfErr result (λ fault. RefusesBytes fault self.old self.new) }
     {
         let stored = match read_record(standing) {
             Ok(stored) => stored,
@@ -184,6 +192,7 @@ impl<R: ReplyBytes, M: StoreMachine<Vec<u8>, R>> ByteServer<M, R> {
     ) -> Result<Decision<R>, ServerFault>
         ensures decided { IfOk result (λ decision. DoneOn M.service M.size self.old (IsComing reads item)
             (λ output. output ≡ Decided decision) self.new) }
+        ensures refused { IfErr result (λ fault. RefusesMemory fault self.old self.new) }
     {
         let input = inputs::coming(reads, item);
         let output = step(alloc, &mut self.core, input)?;
@@ -197,6 +206,7 @@ impl<R: ReplyBytes, M: StoreMachine<Vec<u8>, R>> ByteServer<M, R> {
     pub fn flush(&mut self, alloc: Global) -> Result<bool, ServerFault>
         ensures sends { IfOk result (λ sends. DoneOn M.service M.size self.old (λ input. input ≡ FlushInput)
             (λ output. is_sending output ≡ sends) self.new) }
+        ensures refused { IfErr result (λ fault. RefusesMemory fault self.old self.new) }
     {
         let output = step(alloc, &mut self.core, inputs::flush())?;
         Ok(is_sending(&output))
@@ -204,7 +214,8 @@ impl<R: ReplyBytes, M: StoreMachine<Vec<u8>, R>> ByteServer<M, R> {
 
     /// Returns the compares and the writes of the transaction that was sent.
     pub fn sending(&self, alloc: Global) -> Result<SentBytes, ServerFault>
-        ensures { IfOk result (SpellsSending M.service self.now) }
+        ensures spelled { IfOk result (SpellsSending M.service self.now) }
+        ensures refused { IfErr result (λ fault. CannotSend fault self.now) }
     {
         match self.core.sending() {
             Some(sending) => spelled(alloc, &sending),
@@ -216,6 +227,7 @@ impl<R: ReplyBytes, M: StoreMachine<Vec<u8>, R>> ByteServer<M, R> {
     /// kept.
     pub fn on_made(&mut self, alloc: Global, revision: u64) -> Result<(), ServerFault>
         ensures told { OnOk result (TellsAnswers M.service M.size self.old revision self.new) }
+        ensures refused { IfErr result (λ fault. RefusesOutcome fault self.old self.new) }
     {
         let output = step(alloc, &mut self.core, inputs::made(revision))?;
         match output {
@@ -234,6 +246,7 @@ impl<R: ReplyBytes, M: StoreMachine<Vec<u8>, R>> ByteServer<M, R> {
     pub fn on_lost(&mut self, alloc: Global) -> Result<(), ServerFault>
         ensures lost { OnOk result (DoneOn M.service M.size self.old (λ input. input ≡ LostInput) IsAny self.new) }
         ensures let_go { OnOk result ((self.new.parts.items ≡ []) × (self.new.batches.items ≡ [])) }
+        ensures sure { IsOk result }
     {
         self.parts = Vec::new(alloc);
         self.batches = Vec::new(alloc);
@@ -243,8 +256,9 @@ impl<R: ReplyBytes, M: StoreMachine<Vec<u8>, R>> ByteServer<M, R> {
 
     /// Begins a base, if one is due. Returns whether its parts must be written now.
     pub fn begin_base(&mut self, alloc: Global) -> Result<bool, ServerFault>
-        ensures { IfOk result (λ begins. DoneOn M.service M.size self.old (λ input. input ≡ BaseInput)
+        ensures begun { IfOk result (λ begins. DoneOn M.service M.size self.old (λ input. input ≡ BaseInput)
             (λ output. is_basing output ≡ begins) self.new) }
+        ensures refused { IfErr result (λ fault. RefusesMemory fault self.old self.new) }
     {
         let output = step(alloc, &mut self.core, inputs::base())?;
         Ok(is_basing(&output))
@@ -257,8 +271,9 @@ impl<R: ReplyBytes, M: StoreMachine<Vec<u8>, R>> ByteServer<M, R> {
         alloc: Global,
         place: usize,
     ) -> Result<Option<(PartNumbers, Vec<u8>)>, ServerFault>
-        ensures { IfOk result (λ found. IfSome found (λ part.
+        ensures found { IfOk result (λ found. IfSome found (λ part.
             IsPartOf M.service R.spelled self.now place part.0 part.1.items)) }
+        ensures refused { IfErr result IsWithoutBytes }
     {
         let Some(sending) = self.core.parts() else {
             return Ok(None);
@@ -279,7 +294,8 @@ impl<R: ReplyBytes, M: StoreMachine<Vec<u8>, R>> ByteServer<M, R> {
 
     /// Each part of the base was written, so the next transaction names it.
     pub fn on_parts_made(&mut self, alloc: Global) -> Result<(), ServerFault>
-        ensures { OnOk result (DoneOn M.service M.size self.old (λ input. input ≡ PartsInput) IsAny self.new) }
+        ensures noted { OnOk result (DoneOn M.service M.size self.old (λ input. input ≡ PartsInput) IsAny self.new) }
+        ensures sure { IsOk result }
     {
         let _output = step(alloc, &mut self.core, inputs::parts_made())?;
         Ok(())
@@ -287,8 +303,9 @@ impl<R: ReplyBytes, M: StoreMachine<Vec<u8>, R>> ByteServer<M, R> {
 
     /// Returns whether the base that the head names has replaced the value at the key, which must then be deleted.
     pub fn clears(&mut self, alloc: Global, key: PassingKey) -> Result<bool, ServerFault>
-        ensures { IfOk result (λ clears. DoneOn M.service M.size self.old (λ input. input ≡ ClearInput key)
+        ensures told { IfOk result (λ clears. DoneOn M.service M.size self.old (λ input. input ≡ ClearInput key)
             (λ output. is_clearing output ≡ clears) self.new) }
+        ensures sure { IsOk result }
     {
         let output = step(alloc, &mut self.core, inputs::clear(key))?;
         Ok(is_clearing(&output))
@@ -296,7 +313,9 @@ impl<R: ReplyBytes, M: StoreMachine<Vec<u8>, R>> ByteServer<M, R> {
 }
 
 // Why bytes weren't read.
-fn fault_of(error: ReadError) -> ServerFault {
+fn fault_of(error: ReadError) -> ServerFault
+    ensures { IsOfBytes result }
+{
     match error {
         ReadError::Memory => ServerFault::Memory,
         ReadError::Fault(fault) => ServerFault::Bytes(fault),

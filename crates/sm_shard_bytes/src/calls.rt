@@ -1,12 +1,16 @@
 //! The calls on a server, as C makes them. Each returns 0, or a code of library/codes.txt because C has no results, and
 //! writes its numbers and bytes to the caller's.
-ghost use Rattle.std.specs.Prelude.{◌≡◌, ◌++◌, true, IfOk, IfSome, length};
+ghost use Rattle.std.specs.Prelude.{◌≡◌, ◌≢◌, ◌⊎◌, ◌++◌, false, true, IfNone, IfOk, IfSome, length};
 ghost use Rattle.sm_codec.specs.Spelling.{head_bytes};
+ghost use Rattle.sm_ranges.specs.ServerId.{IsServer};
 ghost use Rattle.sm_shard.specs.declared.steps.ShardInput.TheVariants.{Base as BaseInput, Clear as ClearInput};
 ghost use Rattle.sm_shard.specs.declared.steps.ShardInput.TheVariants.{Flush as FlushInput, Lost as LostInput};
 ghost use Rattle.sm_shard.specs.declared.steps.ShardInput.TheVariants.{PartsMade as PartsInput};
 ghost use Rattle.sm_shard_bytes.specs.Calls.{ComesFrom, IsDecidedAs, IsRequestInput, WritesPart, WritesSending};
 ghost use Rattle.sm_shard_bytes.specs.Calls.{WritesSent, is_decided};
+ghost use Rattle.sm_shard_bytes.specs.Refusals.{RefusesAppend, RefusesForFault, RefusesBytes, RefusesMemory};
+ghost use Rattle.sm_shard_bytes.specs.Refusals.{RefusesOutcome, RefusesPart, RefusesReadAll, RefusesRequest};
+ghost use Rattle.sm_shard_bytes.specs.Refusals.{RefusesSending};
 ghost use Rattle.sm_shard_bytes.specs.Servers.{AddsBatch, AddsPart, DoneOn, IsAny, IsAppending, IsReading};
 ghost use Rattle.sm_shard_bytes.specs.Servers.{IsRecordReading, TellsAnswers, is_basing, is_clearing, is_sending};
 ghost use Rattle.sm_shard_bytes.specs.Servers.{passing_key};
@@ -40,6 +44,7 @@ pub fn batch<R: ReplyBytes, M: StoreMachine<Vec<u8>, R>>(
     ensures core { server.new.core ≡ server.old.core }
     ensures parts { server.new.parts ≡ server.old.parts }
     ensures added { result ≡ 0 → AddsBatch server.old.batches.items bytes.now server.new.batches.items }
+    ensures refused { result ≢ 0 → RefusesForFault RefusesBytes result server.old server.new }
 {
     match server.add_batch(alloc, bytes) {
         Ok(()) => 0,
@@ -56,6 +61,7 @@ pub fn part_read<R: ReplyBytes, M: StoreMachine<Vec<u8>, R>>(
     ensures core { server.new.core ≡ server.old.core }
     ensures batches { server.new.batches ≡ server.old.batches }
     ensures added { result ≡ 0 → AddsPart R.spelled server.old.parts.items bytes.now server.new.parts.items }
+    ensures refused { result ≢ 0 → RefusesForFault RefusesBytes result server.old server.new }
 {
     match server.add_part(alloc, bytes) {
         Ok(()) => 0,
@@ -65,11 +71,12 @@ pub fn part_read<R: ReplyBytes, M: StoreMachine<Vec<u8>, R>>(
 
 /// Reads the bytes at a log's head.
 pub fn log_head(bytes: &[u8], head: &mut LogHead) -> u32
-    ensures { result ≡ 0 → bytes.now ≡ head_bytes (record {
+    ensures read { result ≡ 0 → bytes.now ≡ head_bytes (record {
       batches = head.new.batches;
       base = head.new.base;
       parts = head.new.parts;
     }) }
+    ensures refused { result ≢ 0 → (result ≡ BAD_BYTES) × (head.new ≡ head.old) }
 {
     match read_head(bytes) {
         Ok(found) => {
@@ -94,8 +101,9 @@ pub fn read<R: ReplyBytes, M: StoreMachine<Vec<u8>, R>>(
     head: &[u8],
     logged: u64,
 ) -> u32
-    ensures { result ≡ 0 → DoneOn M.service M.size server.old
+    ensures read { result ≡ 0 → DoneOn M.service M.size server.old
         (IsReading server.old standing.now stood head.now logged) IsAny server.new }
+    ensures refused { result ≢ 0 → RefusesForFault RefusesReadAll result server.old server.new }
 {
     match server.read(alloc, standing, stood, head, logged) {
         Ok(()) => 0,
@@ -113,8 +121,9 @@ pub fn append<R: ReplyBytes, M: StoreMachine<Vec<u8>, R>>(
     head: &[u8],
     logged: u64,
 ) -> u32
-    ensures { result ≡ 0 → DoneOn M.service M.size server.old
+    ensures appended { result ≡ 0 → DoneOn M.service M.size server.old
         (IsAppending server.old standing.now stood head.now logged) IsAny server.new }
+    ensures refused { result ≢ 0 → RefusesForFault RefusesAppend result server.old server.new }
 {
     match server.append(alloc, standing, stood, head, logged) {
         Ok(()) => 0,
@@ -129,8 +138,9 @@ pub fn record<R: ReplyBytes, M: StoreMachine<Vec<u8>, R>>(
     standing: &[u8],
     stood: u64,
 ) -> u32
-    ensures { result ≡ 0 → DoneOn M.service M.size server.old (IsRecordReading standing.now stood) IsAny
+    ensures noted { result ≡ 0 → DoneOn M.service M.size server.old (IsRecordReading standing.now stood) IsAny
         server.new }
+    ensures refused { result ≢ 0 → RefusesForFault RefusesBytes result server.old server.new }
 {
     match server.record(alloc, standing, stood) {
         Ok(()) => 0,
@@ -153,9 +163,10 @@ pub fn take<R: ReplyBytes, M: StoreMachine<Vec<u8>, R>>(
     reply: &mut R,
     forward: &mut ForwardNumbers,
 ) -> u32
-    ensures { is_decided result ≡ true → DoneOn M.service M.size server.old
+    ensures decided { is_decided result ≡ true → DoneOn M.service M.size server.old
         (IsRequestInput reads client number from hops forgets request.now)
         (IsDecidedAs result reply.new forward.new) server.new }
+    ensures refused { is_decided result ≡ false → RefusesRequest from result server.old server.new }
 {
     let Some(mode) = mode_of(from) else {
         return BAD_ARGUMENT;
@@ -183,8 +194,9 @@ pub fn flush<R: ReplyBytes, M: StoreMachine<Vec<u8>, R>>(
     server: &mut ByteServer<M, R>,
     sends: &mut bool,
 ) -> u32
-    ensures { result ≡ 0 → DoneOn M.service M.size server.old (λ input. input ≡ FlushInput)
+    ensures flushed { result ≡ 0 → DoneOn M.service M.size server.old (λ input. input ≡ FlushInput)
         (λ output. is_sending output ≡ sends.new) server.new }
+    ensures refused { result ≢ 0 → RefusesForFault RefusesMemory result server.old server.new }
 {
     match server.flush(alloc) {
         Ok(found) => {
@@ -202,7 +214,8 @@ pub fn sending<R: ReplyBytes, M: StoreMachine<Vec<u8>, R>>(
     numbers: &mut SentNumbers,
     into: &mut [u8],
 ) -> u32
-    ensures { result ≡ 0 → WritesSending M.service numbers.new into.new server.now }
+    ensures written { result ≡ 0 → WritesSending M.service numbers.new into.new server.now }
+    ensures refused { result ≢ 0 → RefusesSending result server.now }
 {
     match server.sending(alloc) {
         Ok(sent) => write_sent(sent, numbers, into),
@@ -211,7 +224,8 @@ pub fn sending<R: ReplyBytes, M: StoreMachine<Vec<u8>, R>>(
 }
 
 fn write_sent(sent: SentBytes, numbers: &mut SentNumbers, into: &mut [u8]) -> u32
-    ensures { result ≡ 0 → WritesSent sent numbers.new into.new }
+    ensures written { result ≡ 0 → WritesSent sent numbers.new into.new }
+    ensures refused { result ≢ 0 → (result ≡ NO_MEMORY) ⊎ (result ≡ TOO_SHORT) }
 {
     let written = SentNumbers {
         stood: sent.stood,
@@ -252,6 +266,7 @@ pub fn made<R: ReplyBytes, M: StoreMachine<Vec<u8>, R>>(
     ensures told { result ≡ 0 → TellsAnswers M.service M.size server.old revision server.new }
     ensures made { result ≡ 0 → made.new ≡ length server.new.made.items }
     ensures read { result ≡ 0 → read.new ≡ length server.new.read.items }
+    ensures refused { result ≢ 0 → RefusesForFault RefusesOutcome result server.old server.new }
 {
     match server.on_made(alloc, revision) {
         Ok(()) => {
@@ -268,7 +283,8 @@ pub fn lost<R: ReplyBytes, M: StoreMachine<Vec<u8>, R>>(
     alloc: Global,
     server: &mut ByteServer<M, R>,
 ) -> u32
-    ensures { result ≡ 0 → DoneOn M.service M.size server.old (λ input. input ≡ LostInput) IsAny server.new }
+    ensures lost { result ≡ 0 → DoneOn M.service M.size server.old (λ input. input ≡ LostInput) IsAny server.new }
+    ensures sure { result ≡ 0 }
 {
     match server.on_lost(alloc) {
         Ok(()) => 0,
@@ -282,8 +298,9 @@ pub fn base<R: ReplyBytes, M: StoreMachine<Vec<u8>, R>>(
     server: &mut ByteServer<M, R>,
     begins: &mut bool,
 ) -> u32
-    ensures { result ≡ 0 → DoneOn M.service M.size server.old (λ input. input ≡ BaseInput)
+    ensures begun { result ≡ 0 → DoneOn M.service M.size server.old (λ input. input ≡ BaseInput)
         (λ output. is_basing output ≡ begins.new) server.new }
+    ensures refused { result ≢ 0 → RefusesForFault RefusesMemory result server.old server.new }
 {
     match server.begin_base(alloc) {
         Ok(found) => {
@@ -302,7 +319,8 @@ pub fn part<R: ReplyBytes, M: StoreMachine<Vec<u8>, R>>(
     part: &mut PartNumbers,
     into: &mut [u8],
 ) -> u32
-    ensures { result ≡ 0 → WritesPart M.service R.spelled place part.new into.new server.now }
+    ensures written { result ≡ 0 → WritesPart M.service R.spelled place part.new into.new server.now }
+    ensures refused { result ≢ 0 → RefusesPart result }
 {
     match server.part(alloc, place) {
         Ok(Some((numbers, bytes))) => if write(&bytes, into) {
@@ -321,7 +339,8 @@ pub fn parts_made<R: ReplyBytes, M: StoreMachine<Vec<u8>, R>>(
     alloc: Global,
     server: &mut ByteServer<M, R>,
 ) -> u32
-    ensures { result ≡ 0 → DoneOn M.service M.size server.old (λ input. input ≡ PartsInput) IsAny server.new }
+    ensures noted { result ≡ 0 → DoneOn M.service M.size server.old (λ input. input ≡ PartsInput) IsAny server.new }
+    ensures sure { result ≡ 0 }
 {
     match server.on_parts_made(alloc) {
         Ok(()) => 0,
@@ -339,9 +358,10 @@ pub fn is_behind<R: ReplyBytes, M: StoreMachine<Vec<u8>, R>>(
     place: u64,
     behind: &mut bool,
 ) -> u32
-    ensures { result ≡ 0 → DoneOn M.service M.size server.old
+    ensures told { result ≡ 0 → DoneOn M.service M.size server.old
         (λ input. input ≡ ClearInput (passing_key server.old.core.shard is_part number place))
         (λ output. is_clearing output ≡ behind.new) server.new }
+    ensures sure { result ≡ 0 }
 {
     let key = passing_key(server.core.shard, is_part, number, place);
     match server.clears(alloc, key) {
@@ -355,7 +375,8 @@ pub fn is_behind<R: ReplyBytes, M: StoreMachine<Vec<u8>, R>>(
 
 // How a request came: directly for 0, or from this server.
 fn mode_of(from: u16) -> Option<Mode>
-    ensures { IfSome result (ComesFrom from) }
+    ensures comes { IfSome result (ComesFrom from) }
+    ensures none { IfNone result ((from ≢ 0) × (IsServer from → ⊥)) }
 {
     if from == 0 {
         return Some(Mode::Direct);

@@ -1,6 +1,7 @@
 //! The codes by which calls answer C.
 ghost use Rattle.std.specs.Prelude.{◌≡◌, ◌≢◌, ◌<◌, false, true};
 ghost use Rattle.sm_shard_bytes.specs.Calls.{TellsDecision, is_decided};
+ghost use Rattle.sm_shard_bytes.specs.Refusals.{server_fault_code};
 
 use crate::forward_numbers::ForwardNumbers;
 use crate::server_fault::ServerFault;
@@ -74,6 +75,7 @@ pub const TOO_LARGE: u32 = 84;
 
 /// Returns the code of why a call on a server did nothing.
 pub fn code_of_fault(fault: ServerFault) -> u32
+    ensures code { result ≡ server_fault_code fault }
     ensures refused { result ≢ 0 }
     ensures undecided { is_decided result ≡ false }
 {
@@ -83,7 +85,10 @@ pub fn code_of_fault(fault: ServerFault) -> u32
         ServerFault::Replay(fault) => match fault {
             ReplayFault::Memory => NO_MEMORY,
             ReplayFault::Missing => MISSING,
-            _ => BAD_LOG,
+            ReplayFault::OutOfOrder
+            | ReplayFault::TooMany
+            | ReplayFault::Unreadable
+            | ReplayFault::UnknownShard => BAD_LOG,
         },
         ServerFault::Unread => UNREAD,
         ServerFault::TooLarge => TOO_LARGE,

@@ -1,6 +1,7 @@
 //! A server's transactions, as bytes.
-ghost use Rattle.std.specs.Prelude.{◌≡◌, ◌<◌, ◌^◌, IfOk, IsTrue, Option, None};
+ghost use Rattle.std.specs.Prelude.{◌≡◌, ◌<◌, ◌^◌, IfErr, IfOk, IsTrue, Option, None};
 ghost use Rattle.sm_codec.specs.Spelling.{FitsBatch, FitsItem, FitsMode, item_view, item_views};
+ghost use Rattle.sm_shard_bytes.specs.Refusals.{IsWithoutBytes};
 ghost use Rattle.sm_shard_bytes.specs.Servers.{IsSpelled, batch_written, head_written, number_written};
 
 use crate::sent_bytes::SentBytes;
@@ -15,7 +16,8 @@ use std::alloc::Global;
 
 /// Returns the compares and the writes of the transaction.
 pub fn spelled(alloc: Global, sending: &BatchSending<'_, Vec<u8>>) -> Result<SentBytes, ServerFault>
-    ensures { IfOk result (IsSpelled sending.now) }
+    ensures spelled { IfOk result (IsSpelled sending.now) }
+    ensures refused { IfErr result IsWithoutBytes }
 {
     let number = number_of(sending.items, &sending.head)?;
     let head = head_of(alloc, sending.items, sending.base, &sending.head)?;
@@ -31,7 +33,8 @@ pub fn spelled(alloc: Global, sending: &BatchSending<'_, Vec<u8>>) -> Result<Sen
 
 // Returns the number of the batch that is written, or 0 for none.
 fn number_of(items: &[Item<Vec<u8>>], head: &Head) -> Result<u64, ServerFault>
-    ensures { IfOk result (λ number. number ≡ number_written items.now head.now) }
+    ensures number { IfOk result (λ number. number ≡ number_written items.now head.now) }
+    ensures refused { IfErr result IsWithoutBytes }
 {
     match items {
         [] => Ok(0),
@@ -49,7 +52,8 @@ fn head_of(
     base: Option<NamedBase>,
     head: &Head,
 ) -> Result<Vec<u8>, ServerFault>
-    ensures { IfOk result (λ bytes. bytes.items ≡ head_written items.now base head.now) }
+    ensures bytes { IfOk result (λ bytes. bytes.items ≡ head_written items.now base head.now) }
+    ensures refused { IfErr result IsWithoutBytes }
 {
     match items {
         [] => match base {
@@ -89,7 +93,8 @@ fn batch_of(
     server: ServerId,
     items: &[Item<Vec<u8>>],
 ) -> Result<Vec<u8>, ServerFault>
-    ensures { IfOk result (λ bytes. bytes.items ≡ batch_written server items.now) }
+    ensures bytes { IfOk result (λ bytes. bytes.items ≡ batch_written server items.now) }
+    ensures refused { IfErr result IsWithoutBytes }
 {
     match items {
         [] => Ok(Vec::new(alloc)),

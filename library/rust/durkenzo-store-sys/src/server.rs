@@ -137,8 +137,8 @@ pub enum Passing {
 /// The proved server of one shard of the sample service.
 pub type Server = ShardServer<Texts>;
 
-/// The proved server of one shard, of the service with these calls. If a call can't be made, it returns a code. If
-/// `durkenzo_store.h` says nothing about going on after this code, you must make another server.
+/// The proved server of one shard, of the service with these calls. If a call can't be made, it returns a code, and
+/// `durkenzo_store.h` says which state the server then has. You may always make another server.
 #[derive(Debug)]
 pub struct ShardServer<C: ServerCalls> {
     pub(crate) handle: Handle,

@@ -118,6 +118,36 @@ fn a_scan_finds_the_keys_of_what_is_made() -> Result<(), Code> {
 }
 
 #[test]
+fn a_refused_reading_leaves_what_a_server_knew_or_nothing() -> Result<(), Code> {
+    let mut server = serving()?;
+    makes(&mut server, 1, &[b"\x02\x01avalue"])?;
+    let malformed = [9];
+    assert_eq!(server.record(&malformed, 7), Err(Code::BAD_BYTES));
+    for read in [Server::read, Server::append] {
+        let refused = read(&mut server, (&malformed, 7), (&EMPTY, 7));
+        assert_eq!(refused, Err(Code::BAD_BYTES));
+        let refused = read(&mut server, (&SERVED, 7), (&malformed, 7));
+        assert_eq!(refused, Err(Code::BAD_BYTES));
+    }
+    let foreign = ServerRequest {
+        from: u16::MAX,
+        ..asked(2, b"\x01\x01a")
+    };
+    assert_eq!(server.take(&foreign), Err(Code::BAD_ARGUMENT));
+    assert_eq!(server.count()?, 1);
+    assert_eq!(server.take(&asked(2, b"\x01\x01a"))?, Decision::Waits);
+    // The log has a second batch, which wasn't read.
+    let mut longer = EMPTY;
+    longer[8] = 2;
+    let refused = server.append((&SERVED, 7), (&longer, 8));
+    assert_eq!(refused, Err(Code::MISSING));
+    assert_eq!(server.count()?, 0);
+    let unread = Decision::Refused(Code::NOT_READ);
+    assert_eq!(server.take(&asked(2, b"\x01\x01a"))?, unread);
+    Ok(())
+}
+
+#[test]
 fn a_scan_gives_more_keys_than_the_first_room_has() -> Result<(), Code> {
     let mut server = serving()?;
     let key = |it: u8| vec![it; 255];

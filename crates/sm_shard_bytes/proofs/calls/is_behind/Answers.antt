@@ -2,9 +2,9 @@ use Rattle.std.proofs.Common.{ap, ◌∙◌}
 use Rattle.sm_shard.specs.declared.steps.ShardInput.TheVariants.{Clear as ClearInput}
 use Rattle.sm_shard_bytes.proofs.calls.is_behind.Goals as goal
 
-pub returns-in-Ok : goal.returns-in-Ok
-returns-in-Ok g c = λ _.
-    let done = c.in-Ok.ensures in
+pub returns-in-Ok-clause-told : goal.returns-in-Ok-clause-told
+returns-in-Ok-clause-told g c = λ _.
+    let done = c.in-Ok.ensures.told in
     let step = done.2 in (
       done.0,
       done.1,

@@ -4,6 +4,7 @@ use Rattle.sm_shard.specs.declared.shard_state.ShardState.{ShardState}
 use Rattle.sm_shard.specs.ShardServers.{AreAsked, AreAskedOf, AreRequestsAskedOf, IsFlushed, StoreSystem}
 use Rattle.sm_shard.specs.Steps.{ArePast}
 use Rattle.sm_shard.proofs.ShardServers.{asked_flushed, known_of, knows_same, ok_map, requests_flushed, some_of}
+use Rattle.sm_shard.proofs.Refused.{as_ready}
 use Rattle.sm_shard.proofs.shard_server.ShardServer.flush.Goals as goal
 
 pub returns-in-Some-clause-known : goal.returns-in-Some-clause-known
@@ -44,3 +45,22 @@ returns-in-Some-clause-asked_for g c = λ asked all.
     c.flush.new.ready c.flush.result done.sends done.waits done.err
     (some_of (λ (r : ShardState g.row.M.Denot g.row.Q.Denot g.row.R.Denot). AreRequestsAskedOf asked shard r)
     c.args.self.now.ready ready c.in-Some.is all)
+
+pub returns-in-Some-clause-refused : goal.returns-in-Some-clause-refused
+returns-in-Some-clause-refused g c =
+    let done = c.flush.ensures in
+    as_ready c.args.self.now.ready c.in-Some.ready c.flush.new.ready c.flush.result c.in-Some.is
+    (λ same. record {
+      state = done.state;
+      stood = done.stood;
+      replica = done.replica;
+      head = done.head;
+      logged = done.logged;
+      sent = same.sent;
+      waiting = same.waiting;
+      carried = same.carried;
+      asking = same.asking;
+      work = same.work;
+      decides = done.decides;
+    })
+    done.err

@@ -1,5 +1,6 @@
-use Rattle.std.proofs.Common.{◌≡◌, ◌≤◌, ◌∙◌, List, length, subst, sym}
+use Rattle.std.proofs.Common.{◌≡◌, ◌≤◌, ◌∙◌, List, ap, length, subst, sym}
 use Rattle.std.specs.Prelude.{IfSome, Option}
+use Rattle.std.specs.Global.{Vec}
 use Rattle.std.specs.List.{AllByRecursion}
 use Rattle.sm_store.specs.declared.item.Item.{Item}
 use Rattle.sm_store.specs.System.{MayClaim}
@@ -12,6 +13,7 @@ use Rattle.sm_shard.specs.ShardServers.{AreRequestsAskedOf, HasRead, IsDecided, 
 use Rattle.sm_shard.specs.ShardServers.{StoreSystem, claimed_by}
 use Rattle.sm_shard.proofs.Crowds.{crowded_if_full}
 use Rattle.sm_shard.proofs.ShardServers.{ok_map, some_of, decided_so, known_of, knows_same, request_taken, same_base}
+use Rattle.sm_shard.proofs.Refused.{as_ready}
 use Rattle.sm_shard.proofs.shard_server.ShardServer.on_request.Goals as goal
 
 pub returns-then-ready-clause-told : goal.returns-then-ready-clause-told
@@ -70,3 +72,22 @@ returns-then-ready-clause-asked_for g c = λ asked all one.
     g.M.StoreMachine.size c.in-Some.ready c.take.new.ready c.args.item c.take.result done.sent done.waiting done.err
     (subst (λ (o : Option (ShardState g.row.M.Denot g.row.Q.Denot g.row.R.Denot)). IfSome o (λ ready.
     AreRequestsAskedOf asked shard ready)) c.in-Some.is all) one
+
+pub returns-then-ready-clause-refused : goal.returns-then-ready-clause-refused
+returns-then-ready-clause-refused g c =
+    let done = c.take.ensures in
+    as_ready c.args.self.now.ready c.in-Some.ready c.take.new.ready c.take.result c.in-Some.is
+    (λ waiting. record {
+      state = done.state;
+      stood = done.stood;
+      replica = done.replica;
+      head = done.head;
+      logged = done.logged;
+      sent = ap (λ (v : Vec (Item g.row.Q.Denot)). v.items) done.sent;
+      waiting = waiting;
+      carried = ap (λ (v : Vec (Item g.row.Q.Denot)). v.items) done.carried;
+      asking = ap (λ (v : Vec (Item g.row.Q.Denot)). v.items) done.asking;
+      work = done.work;
+      decides = done.decides;
+    })
+    done.err

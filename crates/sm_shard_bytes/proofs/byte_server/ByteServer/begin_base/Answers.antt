@@ -1,7 +1,7 @@
 use Rattle.sm_shard_bytes.proofs.byte_server.ByteServer.begin_base.Goals as goal
 
-pub returns : goal.returns
-returns g c =
+pub returns-clause-begun : goal.returns-clause-begun
+returns-clause-begun g c =
     let step = c.in_ok-output.ensures in (
       c.in_ok-output.output,
       c.is_basing.ensures,

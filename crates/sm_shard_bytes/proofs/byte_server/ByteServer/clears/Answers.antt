@@ -1,7 +1,7 @@
 use Rattle.sm_shard_bytes.proofs.byte_server.ByteServer.clears.Goals as goal
 
-pub returns : goal.returns
-returns g c =
+pub returns-clause-told : goal.returns-clause-told
+returns-clause-told g c =
     let step = c.in_ok-output.ensures in (
       c.in_ok-output.output,
       c.is_clearing.ensures,

@@ -1,7 +1,7 @@
 use Rattle.sm_shard_bytes.proofs.byte_server.ByteServer.on_parts_made.Goals as goal
 
-pub returns : goal.returns
-returns g c =
+pub returns-clause-noted : goal.returns-clause-noted
+returns-clause-noted g c =
     let step = c.in_ok-_output.ensures in (
       c.in_ok-_output._output,
       tt,

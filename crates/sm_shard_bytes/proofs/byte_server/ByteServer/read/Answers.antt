@@ -5,32 +5,29 @@ use Rattle.sm_shard.specs.Bases.{Part}
 use Rattle.sm_shard.specs.declared.steps.ShardInput.TheVariants.{Read}
 use Rattle.sm_shard_bytes.proofs.byte_server.ByteServer.read.Goals as goal
 
-pub returns : goal.returns
-returns g c =
+pub returns-clause-read : goal.returns-clause-read
+returns-clause-read g c =
     let head = c.in-Ok-read_head.head in
-    let step = c.in_ok-_output.ensures in
-    record {
-      read = (
-        c.in_ok-_output._output,
-        tt,
-        record {
-          input = Read c.in-Ok.stored.state c.args.stood head c.args.logged c.deref.result c.deref-2.result;
-          input_is = (
-            (c.in-Ok.stored.process, c.in-Ok.ensures.found.1),
-            refl,
-            c.in-Ok-read_head.ensures.found.1,
-            refl,
-            c.deref.ensures.value ∙ ap (λ (v : Vec (Part g.row.R.Denot)). v.items) c.replace-parts.ensures.value,
-            c.deref-2.ensures.value ∙ ap (λ (v : Vec (Vec (Item (Vec ℕ)))). v.items) c.replace-batches.ensures.value,
-          );
-          exact = step.exact;
-          call = step.call;
-          asked_for = step.asked_for;
-          caught_up = step.caught_up;
-          me = step.me;
-          shard = step.shard;
-          count = step.count;
-          limits = step.limits;
-        },
-      );
-    }
+    let step = c.in_ok-_output.ensures in (
+      c.in_ok-_output._output,
+      tt,
+      record {
+        input = Read c.in-Ok.stored.state c.args.stood head c.args.logged c.deref.result c.deref-2.result;
+        input_is = (
+          (c.in-Ok.stored.process, c.in-Ok.ensures.found.1),
+          refl,
+          c.in-Ok-read_head.ensures.found.1,
+          refl,
+          c.deref.ensures.value ∙ ap (λ (v : Vec (Part g.row.R.Denot)). v.items) c.replace-parts.ensures.value,
+          c.deref-2.ensures.value ∙ ap (λ (v : Vec (Vec (Item (Vec ℕ)))). v.items) c.replace-batches.ensures.value,
+        );
+        exact = step.exact;
+        call = step.call;
+        asked_for = step.asked_for;
+        caught_up = step.caught_up;
+        me = step.me;
+        shard = step.shard;
+        count = step.count;
+        limits = step.limits;
+      },
+    )
