@@ -120,7 +120,8 @@ def command(program, cluster, server, options=()):
     return [
         program, "--port", "0", "--http-port", "0", "--log-format", "json", "--etcd", cluster.etcd.urls,
         "--name", str(server), "--listen", "127.0.0.1:0", "--servers", str(SERVERS), "--shards", str(SHARDS),
-        "--lease", str(cluster.lease), "--wait", str(served.WAIT), "--threads", "2", *map(str, options),
+        "--lease", str(cluster.lease), "--wait", str(served.WAIT), "--threads", "2", "--balance", "off",
+        *map(str, options),
     ]
 
 
@@ -723,6 +724,27 @@ def shards_spread_over_servers_again(program):
         return f"{load.checked(client)} additions"
 
 
+def servers_even_out_by_themselves(program):
+    """Shards that were moved away come back without a word, but not to a server that was drained."""
+    with cluster(program, "--balance", "fast", has_pages=True) as several, several.any() as client:
+        several.settled()
+        counts = lambda: [[owner for _, owner in shards(client)].count(str(it)) for it in range(1, SERVERS + 1)]
+        each = SHARDS // SERVERS
+        for shard, (_, owner) in enumerate(shards(client)):
+            owner == "1" or client.ask("SM", "MIGRATE", shard, 1)
+        eventually(lambda: counts() == [each] * SERVERS)
+        client.ask("SM", "DRAIN", 3)
+        eventually(lambda: counts() == [SHARDS // 2, SHARDS // 2, 0])
+        assert "drained" in rows(client)[2], rows(client)
+        assert client.ask("SM", "UNDRAIN", 3) == "OK" and "drained" not in rows(client)[2]
+        eventually(lambda: counts() == [each] * SERVERS)
+        weights = client.rows("WEIGHTS")
+        assert [(it[0], len(it)) for it in weights] == [(str(it), 5) for it in range(SHARDS)], weights
+        moves = sum(numbers(page)["balance_moves_total"] for page in several.pages.values())
+        assert moves >= 2 * each, moves
+        return f"{moves:.0f} moves"
+
+
 @again
 def kills_of_a_process_lose_nothing(program):
     with cluster(program, lease=LEASE) as several:
@@ -1145,6 +1167,7 @@ TESTS = [
     a_machine_that_was_suspended_tells_what_others_wrote,
     migrations_lose_no_addition,
     shards_spread_over_servers_again,
+    servers_even_out_by_themselves,
     kills_of_a_process_lose_nothing,
     who_does_not_wait_is_told,
     one_process_knows_a_command_more,

@@ -16,7 +16,7 @@ pub enum Balance {
 
 impl Balance {
     /// Returns how long servers and shards must have been left alone before shards move.
-    pub(super) fn calm(self) -> Duration {
+    pub fn calm(self) -> Duration {
         match self {
             Balance::Off => Duration::MAX,
             Balance::Slow => Duration::from_secs(10),

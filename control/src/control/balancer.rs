@@ -7,6 +7,8 @@ use super::Refusal;
 use durkenzo_driver::{ControlCommand, ServerState};
 use std::time::{Duration, Instant};
 
+/// How often it reads the loads that servers have told.
+const READING: Duration = Duration::from_secs(2);
 /// After how long a shard or a server that refused a move is tried again, if nothing has changed before.
 const AGAIN: Duration = Duration::from_secs(60);
 
@@ -14,11 +16,14 @@ const AGAIN: Duration = Duration::from_secs(60);
 /// chooses the shards; proved code decides whether each of them may move.
 #[derive(Debug)]
 pub(super) struct Balancer {
-    balance: Balance,
     due: Instant,
+    /// When it reads loads next.
+    reading_due: Instant,
     /// The servers that are up and there, as they were seen last.
     seen: Vec<u16>,
-    /// Since when they have been the same, with nothing under way except this balancer's moves.
+    /// How many changes the control had made then.
+    made: u64,
+    /// Since when those have been the same, except for this balancer's moves.
     calm_since: Instant,
     /// Whether shards move until servers are even.
     is_evening: bool,
@@ -31,11 +36,12 @@ pub(super) struct Balancer {
 
 impl Balancer {
     /// Makes the balancer of a process that leads from now on.
-    pub(super) fn new(balance: Balance, now: Instant) -> Balancer {
+    pub(super) fn new(now: Instant) -> Balancer {
         Balancer {
-            balance,
             due: now,
+            reading_due: now,
             seen: Vec::new(),
+            made: 0,
             calm_since: now,
             is_evening: false,
             left_out: LeftOut::default(),
@@ -47,11 +53,11 @@ impl Balancer {
     /// Begins to move shards if that is due and nothing else is under way. If the store doesn't let it, it tries again
     /// later.
     pub(super) fn go_on(&mut self, control: &mut Controller) {
-        let now = control.now();
-        if self.balance == Balance::Off || now < self.due {
+        let (now, balance) = (control.now(), control.host.balance());
+        if balance == Balance::Off || now < self.due {
             return;
         }
-        self.due = now + self.balance.pause();
+        self.due = now + balance.pause();
         if let Err(refusal) = self.look(control) {
             tracing::info!(%refusal, "no shard moves to even out servers for now");
             control.is_lost |= refusal.is_of_leader();
@@ -65,17 +71,20 @@ impl Balancer {
             return Ok(());
         }
         let moves = !control.tasks.is_empty();
-        if moves || now.saturating_duration_since(self.calm_since) < self.balance.calm() {
+        if moves || now.saturating_duration_since(self.calm_since) < control.host.calm() {
             return Ok(());
         }
         self.moving.clear();
         if now >= self.left_out_until {
             self.left_out = LeftOut::default();
         }
-        control.read_loads()?;
+        if now >= self.reading_due {
+            control.read_loads()?;
+            self.reading_due = now + READING;
+        }
         let mut shares = BalancedShares::of(control)?;
         self.is_evening = shares.is_uneven(self.is_evening);
-        for _ in 0..self.balance.most_at_once() {
+        for _ in 0..control.host.balance().most_at_once() {
             match shares.next(&self.left_out).filter(|_| self.is_evening) {
                 Some(found) => self.begin(found, control)?,
                 None => break,
@@ -84,14 +93,16 @@ impl Balancer {
         Ok(())
     }
 
-    /// Returns whether nothing is under way except moves of this balancer, no server restarts, and the servers that are
-    /// up and there are those that were seen last.
+    /// Returns whether nothing has changed and nothing is under way, except moves of this balancer; no server restarts;
+    /// and the servers that are up and there are those that were seen last.
     fn is_calm(&mut self, control: &mut Controller) -> Result<bool, Refusal> {
         let is_own = |it: &Task| {
             it.shard_going_on()
                 .is_some_and(|it| self.moving.contains(&it))
         };
         let are_own = control.tasks.iter().all(is_own);
+        let is_unchanged = control.made == self.made || !self.moving.is_empty();
+        self.made = control.made;
         let (mut seen, mut is_restarting) = (Vec::new(), false);
         for server in 1..=control.backend.servers() {
             match control.backend.state_of(server)? {
@@ -108,7 +119,8 @@ impl Balancer {
             // Perhaps there is room now.
             (self.seen, self.left_out) = (seen, LeftOut::default());
         }
-        Ok(are_own && is_same && !is_restarting && control.paused.is_empty())
+        let is_calm = are_own && is_unchanged && is_same;
+        Ok(is_calm && !is_restarting && control.paused.is_empty())
     }
 
     /// Begins the move, if the proved control allows it.
@@ -178,8 +190,9 @@ mod tests {
         fn of(shards: usize, balance: Balance) -> Balanced {
             let backend = PlainBackend::of(shards, Stand::Serving(1));
             backend.plain().lasts = true;
+            backend.plain().balance = balance;
             let control = backend.control();
-            let balancer = Balancer::new(balance, control.now());
+            let balancer = Balancer::new(control.now());
             Balanced {
                 backend,
                 control,
@@ -222,6 +235,16 @@ mod tests {
         let mut off = Balanced::of(64, Balance::Off);
         assert_eq!(off.after(120), 0);
         assert!(off.control.tasks.is_empty());
+    }
+
+    #[test]
+    fn nothing_moves_soon_after_somebody_has_moved_a_shard() {
+        let mut slow = Balanced::of(8, Balance::Slow);
+        assert_eq!(slow.after(8), 0);
+        let moved = asked(&mut slow.control, "SM MIGRATE 0 2");
+        assert_eq!(slow.after(9), 1);
+        moved.try_recv().unwrap().unwrap();
+        assert!(slow.after(5) > 1);
     }
 
     #[test]

@@ -28,6 +28,11 @@ pub trait ControlHost: Send + Sync {
         Balance::Off
     }
 
+    /// Returns how long nothing else may have changed before it does. A simulation, whose time is short, has it wait less.
+    fn calm(&self) -> Duration {
+        self.balance().calm()
+    }
+
     /// Notes that the leader moves a shard to even out servers.
     fn note_balanced(&self) {}
 

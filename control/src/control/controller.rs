@@ -49,6 +49,8 @@ pub struct Controller {
     /// The servers that were drained, where that outlives the process. They get no shard unless somebody asks for that,
     /// until a spread or `SM UNDRAIN`.
     pub(super) kept_empty: BTreeSet<u16>,
+    /// How many changes of shards and servers it has made.
+    pub(super) made: u64,
     /// The load of each shard, as its owner told it last.
     pub(super) loads: BTreeMap<u16, ShardLoad>,
     /// The other processes, if this one leads several.
@@ -79,6 +81,7 @@ impl Controller {
             draining: None,
             drained: BTreeSet::new(),
             kept_empty: BTreeSet::new(),
+            made: 0,
             loads: BTreeMap::new(),
             peers: None,
             is_lost: false,
@@ -162,6 +165,7 @@ impl Controller {
     /// Makes a command, and notes the change for others.
     pub(super) fn make(&mut self, command: ControlCommand) -> Result<(), Refusal> {
         let made = self.backend.command(command);
+        self.made += u64::from(made.is_ok());
         let is_elsewhere =
             |it: &BackendFault| matches!(it, BackendFault::Refused(Refused::NotLeader));
         self.is_lost |= made.as_ref().is_err_and(is_elsewhere);

@@ -42,7 +42,7 @@ impl Leader {
         control.peers = Some(peers.clone());
         Leader {
             watch: LeaderWatch::new(assigns, is_back, control.now()),
-            balancer: Balancer::new(control.host.balance(), control.now()),
+            balancer: Balancer::new(control.now()),
             compactor: Compactor::new(store, control.now()),
             control,
             peers,

@@ -2,7 +2,7 @@
 use super::backend::{Backend, BackendFault};
 use super::controller::Controller;
 use super::progress::Doing;
-use super::{Asked, ControlAnswer, ControlHost, Refusal, ReplyTo, Words};
+use super::{Asked, Balance, ControlAnswer, ControlHost, Refusal, ReplyTo, Words};
 use durkenzo::{ChangeFault, Move, Plan, Record, RestartFault, ServerId, ShardId, Stand};
 use durkenzo_driver::{
     Clock, ControlCommand, Intent, Next, Refused, ServerState, ShardLoad, Subject,
@@ -48,7 +48,8 @@ pub(super) struct Plain {
     pub(super) approved: Option<u16>,
     /// The control's notes about servers.
     pub(super) doing: BTreeMap<u16, Doing>,
-    /// How many shards the control moved to even out servers.
+    /// How fast the control evens out servers, and how many shards it moved for that.
+    pub(super) balance: Balance,
     pub(super) balanced: usize,
 }
 
@@ -72,6 +73,7 @@ impl PlainBackend {
             busy: BTreeMap::new(),
             approved: None,
             doing: BTreeMap::new(),
+            balance: Balance::Off,
             balanced: 0,
         };
         PlainBackend(Arc::new(Mutex::new(plain)))
@@ -327,6 +329,11 @@ impl ControlHost for QuietHost {
     }
 
     fn note_change(&self, _command: ControlCommand) {}
+
+    fn balance(&self) -> Balance {
+        let noting = self.noting.as_ref();
+        noting.map_or(Balance::Off, |it| it.plain().balance)
+    }
 
     fn note_balanced(&self) {
         if let Some(backend) = &self.noting {

@@ -4,8 +4,8 @@ use durkenzo::Stand;
 use durkenzo_driver::ServerState;
 use std::collections::{BTreeMap, BTreeSet};
 
-/// How many shards each server has that is up and there, and isn't drained for good. A shard on its way counts at its
-/// destination.
+/// How many shards each server has that is up and there, and isn't and wasn't drained for good. A shard on its way counts
+/// at its destination.
 #[derive(Debug, Default)]
 pub(super) struct Shares(BTreeMap<u16, Share>);
 
@@ -32,7 +32,7 @@ impl Shares {
         let mut shares = Shares::default();
         for server in 1..=control.backend.servers() {
             let is_up = control.backend.state_of(server)? == ServerState::Up;
-            if is_up && control.is_there(server) && !control.drained.contains(&server) {
+            if is_up && control.is_there(server) && !control.is_kept_empty(server) {
                 shares.0.insert(server, Share::default());
             }
         }
@@ -135,6 +135,17 @@ mod tests {
         let mut found = Shares::of(&mut backend.control()).unwrap();
         assert_eq!(found.next(&BTreeSet::new()), Some((3, 2)));
         assert_eq!(found.next(&BTreeSet::new()), None);
+    }
+
+    #[test]
+    fn who_was_drained_gets_no_shard_of_another_one() {
+        let backend = PlainBackend::of(4, Stand::Serving(1));
+        backend.plain().stands[0] = Stand::Serving(2);
+        let mut control = backend.control();
+        let least = |control: &mut Controller| Shares::of(control).unwrap().least_of_some();
+        assert_eq!(least(&mut control), Some(2));
+        control.kept_empty.insert(2);
+        assert_eq!(least(&mut control), Some(1));
     }
 
     #[test]
