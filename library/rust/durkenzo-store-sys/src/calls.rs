@@ -192,7 +192,7 @@ extern "C" {
     pub fn durkenzo_server_close(server: *mut Handle);
 }
 
-/// The place of a request that was made; or, for a read, how many requests were made before it.
+/// The place of a request that was made; or, if it only reads, how many requests were made before it.
 #[cfg(feature = "relay")]
 #[repr(C)]
 #[derive(Clone, Copy, Default, Debug, PartialEq, Eq)]

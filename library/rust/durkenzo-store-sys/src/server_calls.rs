@@ -22,7 +22,8 @@ type Part = unsafe extern "C" fn(*mut Handle, usize, *mut PartNumbers, *mut u8, 
 type IsBehind = unsafe extern "C" fn(*mut Handle, bool, u64, u64, *mut bool) -> u32;
 type Writes<T> = unsafe extern "C" fn(*mut Handle, *mut T) -> u32;
 
-/// The calls that servers of all services have. A call of one service must only get handles of that service.
+/// The calls that servers of all services have. A handle must go to the calls of one service only: if it goes to those
+/// of another, memory is misused.
 pub trait ServerCalls {
     /// The reply to a request that was made.
     type Reply: Copy + Default;
