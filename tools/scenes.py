@@ -45,7 +45,7 @@ STAYING = [
     ("batch/, base/", "the log's requests, and what they left"),
 ]
 # The store's other keys, which are not drawn.
-OTHERS = {"process", "ran", "lowest", "commands", "drained", "load"}
+OTHERS = {"process", "ran", "lowest", "commands", "drained", "load", "snapshot"}
 
 
 def written(change):

@@ -1,5 +1,8 @@
 use std::vec::IntoIter;
 
+/// Values with their keys.
+pub(crate) type KeyedParts = Vec<(Vec<u8>, Vec<u8>)>;
+
 /// The parts of a base that are being written, each with its key.
 pub(crate) struct BaseParts {
     waiting: IntoIter<(Vec<u8>, Vec<u8>)>,
@@ -9,7 +12,7 @@ pub(crate) struct BaseParts {
 
 impl BaseParts {
     /// Makes the list of these parts. None of them is written yet.
-    pub(crate) fn new(parts: Vec<(Vec<u8>, Vec<u8>)>) -> BaseParts {
+    pub(crate) fn new(parts: KeyedParts) -> BaseParts {
         BaseParts {
             waiting: parts.into_iter(),
             under_way: 0,

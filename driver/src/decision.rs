@@ -45,12 +45,18 @@ pub(crate) struct Base {
     pub(crate) number: u64,
     /// The bytes of its parts.
     pub(crate) parts: Vec<Vec<u8>>,
+    /// The state of the service after those batches, if its servers keep it themselves.
+    pub(crate) snapshot: Option<Vec<u8>>,
 }
 
 impl From<sys::Base> for Base {
     fn from(base: sys::Base) -> Base {
         let sys::Base { number, parts } = base;
-        Base { number, parts }
+        Base {
+            number,
+            parts,
+            snapshot: None,
+        }
     }
 }
 

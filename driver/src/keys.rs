@@ -19,6 +19,8 @@
 //! | `head/SHARD` | how many batches its log has, and the base that replaces the first of them |
 //! | `batch/SHARD/NUMBER` | requests that were made together |
 //! | `base/SHARD/NUMBER/PLACE` | a part of the base that replaces so many batches |
+//! | `snapshot/SHARD` | which snapshot of a user's machine belongs to the base that the head names |
+//! | `snapshot/SHARD/NUMBER/PROCESS/ATTEMPT/PLACE` | a part of a snapshot for the base of this number |
 //!
 //! Numbers have a fixed number of digits, so that keys are in numerical order.
 
@@ -242,6 +244,33 @@ pub(crate) fn bases(shard: u16) -> [Vec<u8>; 2] {
 /// Returns the key of a part of a base.
 pub(crate) fn part(shard: u16, number: u64, place: u64) -> Vec<u8> {
     format!("base/{shard:05}/{number:020}/{place:05}").into_bytes()
+}
+
+/// Returns the key of the name of the shard's snapshot.
+pub(crate) fn snapshot(shard: u16) -> Vec<u8> {
+    format!("snapshot/{shard:05}").into_bytes()
+}
+
+/// Returns the keys between which the parts of the shard's snapshots lie.
+pub(crate) fn snapshots(shard: u16) -> [Vec<u8>; 2] {
+    ["/", "0"].map(|behind| format!("snapshot/{shard:05}{behind}").into_bytes())
+}
+
+/// Returns the key of a part of a snapshot for the base of this number, by this attempt of a process.
+pub(crate) fn snapshot_part(
+    shard: u16,
+    number: u64,
+    (process, attempt): (u64, u64),
+    place: u64,
+) -> Vec<u8> {
+    let written = format!("{process:020}/{attempt:020}");
+    format!("snapshot/{shard:05}/{number:020}/{written}/{place:05}").into_bytes()
+}
+
+/// Returns the number of the base to which the part of a snapshot at this key belongs.
+pub(crate) fn base_of_snapshot(key: &[u8]) -> Option<u64> {
+    // It stands where a batch has its number.
+    number_of_batch(key)
 }
 
 /// Returns the base and the place in this key, if it is the key of a part.

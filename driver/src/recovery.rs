@@ -5,6 +5,7 @@ use crate::decision::Passing;
 use crate::keys;
 use crate::proved::Core;
 use crate::shard_service::ShardService;
+use crate::snapshot_name::SnapshotName;
 use crate::{ServerFault, StoredRecord};
 use durkenzo_store::{Pair, ReadError, Reading, Revision, Store};
 use durkenzo_store_sys::Head;
@@ -163,6 +164,8 @@ struct Moment {
     record: (Vec<u8>, Revision),
     head: (Vec<u8>, Revision),
     named: Head,
+    /// The snapshot of the base, if the service has snapshots and there is a base.
+    snapshot: Option<SnapshotName>,
 }
 
 /// Returns a server that has read the shard. If the server has kept the requests that it had made, it reads only the
@@ -179,7 +182,7 @@ pub(crate) fn recover(
     };
     let mut cost = read.log.cost();
     for _ in 0..MORE {
-        if cost <= FEW_BYTES || !has_less(source.store, &mut read.core, place.shard, cost) {
+        if cost <= FEW_BYTES || !has_less(source, &mut read.core, place.shard, cost) {
             break;
         }
         let more = read_on(source, read.core, place)?;
@@ -194,8 +197,8 @@ pub(crate) fn recover(
 
 /// Returns whether something was written since the server read, and reading it takes much less time than the reading
 /// before, which cost so much. Otherwise the owner writes about as fast as the server reads.
-fn has_less(store: &dyn Store, core: &mut Core, shard: u16, cost: u64) -> bool {
-    match (moment(store, shard), core.batch_count()) {
+fn has_less(source: Source<'_>, core: &mut Core, shard: u16, cost: u64) -> bool {
+    match (moment(source, shard), core.batch_count()) {
         (Ok(now), Ok(made)) => {
             let lacks = now.named.batches.saturating_sub(made);
             lacks > 0 && 2 * lacks * BATCH_BYTES <= cost
@@ -206,25 +209,51 @@ fn has_less(store: &dyn Store, core: &mut Core, shard: u16, cost: u64) -> bool {
 
 /// Returns the server once it has read what it lacks, or the whole shard if that is gone.
 fn read_on(source: Source<'_>, core: Core, place: ServerPlace) -> Result<Recovered, Unrecovered> {
-    match caught_up(source.store, core, place.shard)? {
+    match caught_up(source, core, place.shard)? {
         Some(recovered) => Ok(recovered),
         None => Ok(read_whole(source, place)?),
     }
 }
 
 /// Reads the record and the head at one moment.
-fn moment(store: &dyn Store, shard: u16) -> Result<Moment, RecoveryFault> {
+fn moment(source: Source<'_>, shard: u16) -> Result<Moment, RecoveryFault> {
     let (record, head) = (keys::record(shard), keys::head(shard));
-    let reading = store.read(&[&record, &head])?;
+    let snapshot = source
+        .service
+        .has_snapshots()
+        .then(|| keys::snapshot(shard));
+    let wanted: Vec<&[u8]> = [&record, &head]
+        .into_iter()
+        .chain(&snapshot)
+        .map(Vec::as_slice)
+        .collect();
+    let reading = source.store.read(&wanted)?;
     let (record, head) = (
         found(&reading, &record, &keys::VACANT),
         found(&reading, &head, &keys::EMPTY),
     );
     let named = Head::of(&head.0).map_err(ServerFault::Code)?;
+    let snapshot = match snapshot.filter(|_| named.base > 0) {
+        Some(key) => Some(snapshot_of(&reading, &key, named)?),
+        None => None,
+    };
     Ok(Moment {
         record,
         head,
         named,
+        snapshot,
+    })
+}
+
+/// Returns the snapshot of the base that the head names.
+fn snapshot_of(reading: &Reading, key: &[u8], named: Head) -> Result<SnapshotName, RecoveryFault> {
+    let name = reading.get(key).and_then(|it| SnapshotName::of(&it.value));
+    name.filter(|it| it.base == named.base).ok_or_else(|| {
+        let key = String::from_utf8_lossy(key);
+        RecoveryFault::Damaged(format!(
+            "{key} doesn't name the snapshot of base {}",
+            named.base
+        ))
     })
 }
 
@@ -244,12 +273,15 @@ fn read_batches(
 /// Returns a server that has read all of the shard.
 fn read_whole(source: Source<'_>, place: ServerPlace) -> Result<Recovered, RecoveryFault> {
     let (store, shard) = (source.store, place.shard);
-    let now = moment(store, shard)?;
+    let now = moment(source, shard)?;
     let named = now.named;
     let mut core = source.service.server(place)?;
     let part = |place| keys::part(shard, named.base, place);
     let (from, end) = (part(0), part(named.parts));
-    let base = each(store, from, &end, PARTS, |it| core.add_part(&it.value))?;
+    let mut base = each(store, from, &end, PARTS, |it| core.add_part(&it.value))?;
+    if let Some(name) = now.snapshot {
+        base += read_snapshot(store, &mut core, shard, name)?;
+    }
     let bytes = read_batches(store, &mut core, shard, named.base, &named)?;
     core.read((&now.record.0, now.record.1), (&now.head.0, now.head.1))?;
     let batches = named.batches - named.base;
@@ -265,15 +297,15 @@ fn read_whole(source: Source<'_>, place: ServerPlace) -> Result<Recovered, Recov
 /// Returns the server with the batches that were added to the log since. Returns nothing if they are gone, or if the
 /// server can't go on from them. If the store doesn't answer, the server keeps the requests that it had made.
 fn caught_up(
-    store: &dyn Store,
+    source: Source<'_>,
     mut core: Core,
     shard: u16,
 ) -> Result<Option<Recovered>, Unrecovered> {
     let Ok(made) = core.batch_count() else {
         return Ok(None);
     };
-    let read = moment(store, shard).and_then(|now| {
-        let bytes = read_batches(store, &mut core, shard, made, &now.named)?;
+    let read = moment(source, shard).and_then(|now| {
+        let bytes = read_batches(source.store, &mut core, shard, made, &now.named)?;
         Ok((now, bytes))
     });
     let (now, bytes) = match read {
@@ -296,6 +328,22 @@ fn caught_up(
         bytes_read: bytes,
     };
     Ok(Some(recovered(core, now, log)))
+}
+
+/// Reads the snapshot, and gives its parts to the server. Returns its bytes.
+fn read_snapshot(
+    store: &dyn Store,
+    core: &mut Core,
+    shard: u16,
+    name: SnapshotName,
+) -> Result<u64, RecoveryFault> {
+    let (from, end) = (name.key(shard, 0), name.key(shard, name.parts));
+    let bytes = each(store, from, &end, PARTS, |it| core.add_snapshot(&it.value))?;
+    // A later base may have replaced it meanwhile.
+    match bytes == name.bytes {
+        true => Ok(bytes),
+        false => Err(RecoveryFault::Later),
+    }
 }
 
 fn recovered(core: Core, now: Moment, log: LogRead) -> Recovered {
@@ -352,18 +400,35 @@ fn each(
     Ok(bytes)
 }
 
-/// Returns the keys that the base which the head names may have replaced: all parts of bases, and the existing batches
-/// up to the base, in their order.
-pub(crate) fn passing(store: &dyn Store, shard: u16) -> Result<Vec<Passing>, RecoveryFault> {
-    let key = keys::head(shard);
-    let reading = store.read(&[&key])?;
-    let named = Head::of(&found(&reading, &key, &keys::EMPTY).0).map_err(ServerFault::Code)?;
-    let [from, end] = keys::bases(shard);
-    let parts = store.read_keys(&from, &end)?;
-    let parts = parts.iter().filter_map(|it| keys::base_and_place(it));
-    let parts = parts.map(|(base, place)| Passing::Part(base, place));
-    let (from, end) = (keys::batch(shard, 1), keys::batch(shard, named.base + 1));
-    let batches = store.read_keys(&from, &end)?;
-    let batches = batches.iter().filter_map(|it| keys::number_of_batch(it));
-    Ok(parts.chain(batches.map(Passing::Batch)).collect())
+/// A key that a base may have replaced, and by what the server judges whether it did. A part of a snapshot is replaced
+/// with the parts of its base.
+pub(crate) type PassedKey = (Passing, Vec<u8>);
+
+/// Returns the keys that the base which the head names may have replaced: all parts of bases and of snapshots, and the
+/// existing batches up to the base, each kind in its order.
+pub(crate) fn passing(source: Source<'_>, shard: u16) -> Result<Vec<PassedKey>, RecoveryFault> {
+    let (store, head) = (source.store, keys::head(shard));
+    let reading = store.read(&[&head])?;
+    let named = Head::of(&found(&reading, &head, &keys::EMPTY).0).map_err(ServerFault::Code)?;
+    let part = |key: &[u8]| keys::base_and_place(key).map(|it| Passing::Part(it.0, it.1));
+    let snapshot = |key: &[u8]| keys::base_of_snapshot(key).map(|it| Passing::Part(it, 0));
+    let batch = |key: &[u8]| keys::number_of_batch(key).map(Passing::Batch);
+    let batches = [keys::batch(shard, 1), keys::batch(shard, named.base + 1)];
+    let mut found = passed(store, &keys::bases(shard), part)?;
+    if source.service.has_snapshots() {
+        found.extend(passed(store, &keys::snapshots(shard), snapshot)?);
+    }
+    found.extend(passed(store, &batches, batch)?);
+    Ok(found)
+}
+
+/// Returns the keys between these, by what each is judged.
+fn passed(
+    store: &dyn Store,
+    [from, end]: &[Vec<u8>; 2],
+    by: impl Fn(&[u8]) -> Option<Passing>,
+) -> Result<Vec<PassedKey>, RecoveryFault> {
+    let keys = store.read_keys(from, end)?;
+    let judged = keys.into_iter().map(|key| Some((by(&key)?, key)));
+    Ok(judged.flatten().collect())
 }

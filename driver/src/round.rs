@@ -5,7 +5,7 @@ use crate::run::{DecidedChange, Origin};
 use crate::shard::Lister;
 use crate::size::Size;
 use crate::work::{Begin, Numbered, Work, WorkOutcome, WorkStep};
-use crate::{Key, MapReply, MapRequest, NotDone};
+use crate::{Key, MapReply, MapRequest, NotDone, OpaqueRequest};
 use durkenzo_store::Revision;
 use std::collections::{BTreeSet, HashMap, HashSet, VecDeque};
 use std::time::Instant;
@@ -125,7 +125,7 @@ impl Round {
     /// these are made, nothing else is written, and no other step of those runs is done.
     pub(crate) fn take_decided(&mut self, decided: &mut VecDeque<DecidedChange>) {
         while let Some(next) = decided.pop_front() {
-            if self.filter != StepFilter::All || !self.has_room(&next.requests) {
+            if self.filter != StepFilter::All || !self.has_room(Size::of(&next.requests)) {
                 decided.push_front(next);
                 break;
             }
@@ -140,10 +140,10 @@ impl Round {
         }
     }
 
-    /// Returns whether these requests can be written beside the others.
-    fn has_room(&self, requests: &[MapRequest]) -> bool {
+    /// Returns whether so much can be written beside the others.
+    fn has_room(&self, size: Size) -> bool {
         let is_first = self.writes == Size::default();
-        is_first || (self.writes + Size::of(requests)).is_within(self.most_writes)
+        is_first || (self.writes + size).is_within(self.most_writes)
     }
 
     /// Takes the run's next step, or gives the step back if it must wait for the next round. If there is a lister, it
@@ -159,7 +159,7 @@ impl Round {
             self.stopped.insert(run);
             return Err(step);
         }
-        if !self.has_room(step.begin.requests()) {
+        if !self.has_room(step.begin.size()) {
             // Later steps don't overtake it, so its turn comes.
             self.is_closed = true;
             return Err(step);
@@ -185,13 +185,20 @@ impl Round {
                     requests.iter().map(MapRequest::bytes).collect(),
                 )
             }
+            Begin::Opaque(request) => (self.begin_opaque(run, request), vec![request.bytes()]),
         };
-        let numbered = match &step.begin {
-            Begin::Numbered(numbered, _) => Some(*numbered),
-            _ => None,
-        };
+        let numbered = step.begin.numbered();
         self.add(step, kind, origin, bytes, numbered);
         Ok(())
+    }
+
+    fn begin_opaque(&mut self, run: u64, request: &OpaqueRequest) -> StepKind {
+        if request.only_reads() {
+            return StepKind::Read;
+        }
+        self.wrote.insert(run);
+        self.writes = self.writes + request.size();
+        StepKind::Write
     }
 
     fn add_list(&mut self, step: WorkStep, origin: Origin, listed: Option<KeyList>) {
@@ -204,6 +211,7 @@ impl Round {
 
     fn may_take(&self, run: u64, begin: &Begin) -> bool {
         let reads = |it: &MapRequest| self.read.contains(it.key());
+        let is_waiting = |it: Numbered| self.numbered.contains_key(&it.first());
         let may = match begin {
             Begin::Read(_) | Begin::Scan(_) | Begin::Keys(_) | Begin::Count => {
                 !self.wrote.contains(&run)
@@ -215,12 +223,14 @@ impl Round {
             Begin::Write(requests) => !requests.iter().any(reads),
             // A client that numbers its requests has only one number waiting at a time.
             Begin::Numbered(numbered, requests) => {
-                !self.numbered.contains_key(&numbered.first()) && !requests.iter().any(reads)
+                !is_waiting(*numbered) && !requests.iter().any(reads)
             }
+            Begin::Opaque(request) if request.only_reads() => !self.wrote.contains(&run),
+            Begin::Opaque(request) => !request.numbered().is_some_and(is_waiting),
         };
         let is_wanted = match self.filter {
             StepFilter::All => true,
-            StepFilter::NoGrowth => begin.requests().iter().all(MapRequest::deletes),
+            StepFilter::NoGrowth => begin.takes_no_room(),
             StepFilter::OnlyReads => begin.only_reads(),
         };
         may && is_wanted && !self.stopped.contains(&run)

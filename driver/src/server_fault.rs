@@ -7,6 +7,15 @@ pub(crate) enum ServerFault {
     /// The server answered this code.
     #[error("{0}")]
     Code(#[from] Code),
+    /// The machine of a user's service can't go on: its function, and why.
+    #[error("the service's machine: {0}")]
+    Machine(String),
+    /// The machine has applied so many requests where the server has made that many.
+    #[error("the service's machine is after {0} requests, and the log has {1}")]
+    OtherCount(u64, u64),
+    /// The log has a request of another service.
+    #[error("the log is of another service: take a store, or a prefix, of its own")]
+    OtherService,
 }
 
 impl ServerFault {
@@ -14,6 +23,9 @@ impl ServerFault {
     pub(crate) fn is_damage(&self) -> bool {
         match self {
             ServerFault::Code(code) => matches!(*code, Code::BAD_BYTES | Code::BAD_LOG),
+            ServerFault::Machine(_) | ServerFault::OtherCount(..) | ServerFault::OtherService => {
+                true
+            }
         }
     }
 }

@@ -20,10 +20,15 @@ impl Size {
 
     /// Returns the size of these requests.
     pub(crate) fn of(requests: &[MapRequest]) -> Size {
-        let bytes = requests.iter().map(|it| AROUND + it.length());
+        let sizes = requests.iter().map(|it| Size::of_one(it.length()));
+        sizes.fold(Size::default(), Size::add)
+    }
+
+    /// Returns the size of one request with so many bytes.
+    pub(crate) fn of_one(length: usize) -> Size {
         Size {
-            requests: requests.len(),
-            bytes: bytes.sum(),
+            requests: 1,
+            bytes: AROUND + length,
         }
     }
 

@@ -1,5 +1,5 @@
 use crate::size::Size;
-use crate::{Key, MapReply, MapRequest, Range};
+use crate::{Key, MapReply, MapRequest, OpaqueRequest, Range};
 use durkenzo_store::Revision;
 use thiserror::Error;
 
@@ -43,6 +43,8 @@ pub enum Begin {
     Write(Vec<MapRequest>),
     /// It makes these writes once, however often and wherever it is asked for, and each time returns its first replies.
     Numbered(Numbered, Vec<MapRequest>),
+    /// It is this request of a user's own service. The reply is a [`MapReply::Text`] with the machine's answer.
+    Opaque(OpaqueRequest),
 }
 
 impl Begin {
@@ -51,22 +53,58 @@ impl Begin {
         match self {
             Begin::Read(_) | Begin::Scan(_) | Begin::Keys(_) | Begin::Count => true,
             Begin::Change(_) | Begin::Write(_) | Begin::Numbered(..) => false,
+            Begin::Opaque(request) => request.only_reads(),
         }
     }
 
-    /// Returns its writes, if they don't depend on values.
+    /// Returns its number, if its client gave it one.
+    pub(crate) fn numbered(&self) -> Option<Numbered> {
+        match self {
+            Begin::Numbered(numbered, _) => Some(*numbered),
+            Begin::Opaque(request) => request.numbered(),
+            Begin::Read(_)
+            | Begin::Scan(_)
+            | Begin::Keys(_)
+            | Begin::Count
+            | Begin::Change(_)
+            | Begin::Write(_) => None,
+        }
+    }
+
+    /// Returns its writes to keys, if they don't depend on values.
     pub(crate) fn requests(&self) -> &[MapRequest] {
         match self {
             Begin::Write(requests) | Begin::Numbered(_, requests) => requests,
-            _ => &[],
+            Begin::Read(_)
+            | Begin::Scan(_)
+            | Begin::Keys(_)
+            | Begin::Count
+            | Begin::Change(_)
+            | Begin::Opaque(_) => &[],
+        }
+    }
+
+    /// Returns how much of a batch it takes, if that doesn't depend on values.
+    pub(crate) fn size(&self) -> Size {
+        match self {
+            Begin::Opaque(request) => request.size(),
+            other => Size::of(other.requests()),
+        }
+    }
+
+    /// Returns whether it writes nothing at first, or only deletes.
+    pub(crate) fn takes_no_room(&self) -> bool {
+        match self {
+            Begin::Opaque(request) => request.only_reads(),
+            other => other.requests().iter().all(MapRequest::deletes),
         }
     }
 
     /// Returns why no shard takes it, if none does: the shard can't keep note of the number, or the writes are too
     /// large.
     pub(crate) fn refused(&self) -> Option<NotDone> {
-        match self {
-            Begin::Numbered(numbered, requests) if !numbered.fits(requests.len()) => {
+        match self.numbered() {
+            Some(numbered) if !numbered.fits(self.requests().len()) => {
                 let why = format!(
                     "clients are 1 to {}, their numbers begin with 1, and one is of {} requests at most",
                     Numbered::LAST_CLIENT,
@@ -74,7 +112,7 @@ impl Begin {
                 );
                 Some(NotDone::NotMade(why))
             }
-            other => NotDone::if_too_large(other.requests()),
+            _ => NotDone::if_larger(self.size()),
         }
     }
 }
@@ -174,11 +212,16 @@ pub enum NotDone {
 impl NotDone {
     /// Returns the fault that these requests are more than can be written at once, if they are.
     pub(crate) fn if_too_large(requests: &[MapRequest]) -> Option<NotDone> {
+        NotDone::if_larger(Size::of(requests))
+    }
+
+    /// Returns the fault that this is more than can be written at once, if it is.
+    fn if_larger(size: Size) -> Option<NotDone> {
         let Size {
             requests: most,
             bytes,
         } = Size::MOST;
         let why = format!("at once {bytes} bytes are written at most, and {most} requests");
-        (!Size::of(requests).is_within(Size::MOST)).then_some(NotDone::TooLarge(why))
+        (!size.is_within(Size::MOST)).then_some(NotDone::TooLarge(why))
     }
 }

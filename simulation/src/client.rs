@@ -102,7 +102,8 @@ impl Asking {
                 return Some(self.has_read(read(keys, &self.held)));
             }
             Begin::Change(keys) => read(keys, &self.held).1,
-            Begin::Write(_) | Begin::Numbered(..) => Listed::new(),
+            // The simulated service is the sample one, which has no opaque requests.
+            Begin::Write(_) | Begin::Numbered(..) | Begin::Opaque(_) => Listed::new(),
             Begin::Read(keys) => return Some(self.has_read(read(keys, &replies))),
             Begin::Scan(range) | Begin::Keys(range) => {
                 let is_of_pairs = matches!(self.begin, Begin::Scan(_));

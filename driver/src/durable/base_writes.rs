@@ -1,7 +1,6 @@
 //! How a base is written, and how the batches are deleted that it replaces.
 use super::durable_inner::{locked, DurableInner};
-use super::reader_job::Parts;
-use crate::base_parts::BaseParts;
+use crate::base_parts::{BaseParts, KeyedParts};
 use crate::shard::Ticket;
 use durkenzo_store::{Outcome, Transaction, WriteError};
 use std::sync::atomic::Ordering;
@@ -18,7 +17,12 @@ impl DurableInner {
     /// Writes the parts of a base, some at once and each by itself, and tells whether all were written. If the store
     /// doesn't have room for all of them, none is written, because no part could be deleted until a later base is
     /// named.
-    pub(super) fn write_base(self: &Arc<DurableInner>, shard: u16, ticket: Ticket, parts: Parts) {
+    pub(super) fn write_base(
+        self: &Arc<DurableInner>,
+        shard: u16,
+        ticket: Ticket,
+        parts: KeyedParts,
+    ) {
         let bytes = parts.iter().map(|it| it.1.len() as u64).sum::<u64>();
         let others = self.basing.fetch_add(bytes, Ordering::AcqRel);
         let needed = (others + bytes) * BASE_ROOM.0 / BASE_ROOM.1 + BASE_SLACK;

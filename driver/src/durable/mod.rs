@@ -18,11 +18,11 @@ pub use shard_options::{Reads, ShardOptions};
 use crate::clock::Clock;
 use crate::load_meter::LoadMeter;
 use crate::shard::Shard;
-use crate::shard_service::{ShardService, Texts};
+use crate::shard_service::{Machines, ShardService, Texts};
 use crate::stored_record::takes_part;
 use crate::{
-    process, Came, Chores, CompactFault, Elsewhere, Member, NotDone, OpenFault, Own, Ownership,
-    StoredRecord, WorkStep,
+    process, Came, Chores, CompactFault, Elsewhere, Machine, Member, NotDone, OpenFault, Own,
+    Ownership, StoredRecord, WorkStep,
 };
 use durable_inner::locked;
 use durable_threads::{threads, wait_for};
@@ -89,6 +89,28 @@ impl Durable {
             (process, Some(own)),
             on_change,
         )
+    }
+
+    /// Opens the shards of this store for a user's own service: each shard is such a [`Machine`], and its steps are
+    /// [`Begin::Opaque`](crate::Begin::Opaque). If this process has only one server of them, `own` is that server, as
+    /// in [`Durable::open_one`].
+    ///
+    /// # Errors
+    ///
+    /// If the store can't be read or written.
+    pub fn open_machines<M: Machine>(
+        store: Arc<dyn Store>,
+        shards: u16,
+        shard_options: ShardOptions,
+        own: Option<Own>,
+        on_change: Box<dyn Fn() + Send + Sync>,
+    ) -> Result<Durable, OpenFault> {
+        let process = match &own {
+            Some(own) => own.member.process(),
+            None => process::begin(&*store)?,
+        };
+        let served = (store, Arc::new(Machines::<M>::default()) as Arc<_>);
+        Durable::begin(served, shards, shard_options, (process, own), on_change)
     }
 
     fn begin(
@@ -277,7 +299,10 @@ impl Durable {
         }
         let mut taken = Vec::with_capacity(steps.len());
         for step in steps {
-            match step.begin.refused() {
+            let other = "the shards are of another service: take the steps of this one";
+            let is_other = !self.inner.service.takes(&step.begin);
+            let other = is_other.then(|| NotDone::NotMade(other.to_owned()));
+            match other.or_else(|| step.begin.refused()) {
                 Some(why) => step.work.end(Err(why)),
                 None => taken.push(step),
             }

@@ -1,3 +1,4 @@
+use crate::base_parts::KeyedParts;
 use crate::proved::Core;
 use crate::shard::Ticket;
 
@@ -14,11 +15,8 @@ pub(crate) enum ReaderJob {
     /// Takes another number for the process, for all shards.
     ProcessOfAll,
     /// Checks whether there is room for a base of this shard, and then writes the base.
-    Room(u16, Ticket, Parts),
+    Room(u16, Ticket, KeyedParts),
 }
-
-/// The parts of a base, each with its key.
-pub(super) type Parts = Vec<(Vec<u8>, Vec<u8>)>;
 
 /// The call that tells a shard the result of a reading. It may come later than the reading.
 pub(crate) type ReadBack = Box<dyn FnOnce() + Send>;

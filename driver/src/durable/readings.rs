@@ -9,6 +9,13 @@ use std::sync::Arc;
 use std::time::Instant;
 
 impl DurableInner {
+    fn source(&self) -> Source<'_> {
+        Source {
+            store: &*self.store,
+            service: &*self.service,
+        }
+    }
+
     /// Reads the shard's record, because somebody has seen a later one. If it can't be read, it is tried again.
     fn read_record(&self, shard: u16) -> Option<StoredRecord> {
         let key = keys::record(shard);
@@ -57,11 +64,7 @@ impl DurableInner {
                     shard,
                     count: self.shards.len() as u16,
                 };
-                let source = Source {
-                    store: &*self.store,
-                    service: &*self.service,
-                };
-                let read = recovery::recover(source, kept, place);
+                let read = recovery::recover(self.source(), kept, place);
                 inner.told(shard, move |it, now, actions| {
                     it.on_read(ticket, read, now, actions);
                 })
@@ -86,9 +89,9 @@ impl DurableInner {
             }
             ReaderJob::Passing(shard, server) => {
                 // If it can't be read, the next base sweeps.
-                let found = recovery::passing(&*self.store, shard).unwrap_or_default();
+                let found = recovery::passing(self.source(), shard).unwrap_or_default();
                 inner.told(shard, move |it, _, actions| {
-                    it.on_swept(server, &found, actions)
+                    it.on_swept(server, found, actions)
                 })
             }
         }

@@ -1,10 +1,12 @@
 //! The proved servers and the proved control, with the types of this crate.
 mod director;
+mod log_server;
 mod proved_server;
 mod text_server;
 
 pub(crate) use director::{AckRead, CommandTransaction, Director};
 pub(crate) use durkenzo_store_sys::ServerRequest;
+pub(crate) use log_server::LogServer;
 pub(crate) use proved_server::{Core, ProvedServer};
 pub(crate) use text_server::TextServer;
 

@@ -3,11 +3,14 @@ use crate::decision::{Base, ClientReply, Decision, Passing, ServerTransaction};
 use crate::{Key, ServerFault};
 use durkenzo_store::Revision;
 
-/// A proved server of one shard, with the state that its service keeps beside it. Rounds drive servers of any service by
-/// these calls.
+/// A proved server of one shard, with the state that its service keeps beside it. Rounds drive servers of any service
+/// by these calls.
 pub(crate) trait ProvedServer: Send {
     /// Adds the next part of the base that was read.
     fn add_part(&mut self, bytes: &[u8]) -> Result<(), ServerFault>;
+
+    /// Adds the next part of the snapshot that was read with the base. Only a service with snapshots gets some.
+    fn add_snapshot(&mut self, bytes: &[u8]) -> Result<(), ServerFault>;
 
     /// Adds the next batch that was read.
     fn add_batch(&mut self, bytes: &[u8]) -> Result<(), ServerFault>;

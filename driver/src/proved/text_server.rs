@@ -28,6 +28,10 @@ impl ProvedServer for TextServer {
         Ok(self.server.add_part(bytes)?)
     }
 
+    fn add_snapshot(&mut self, _bytes: &[u8]) -> Result<(), ServerFault> {
+        Ok(())
+    }
+
     fn add_batch(&mut self, bytes: &[u8]) -> Result<(), ServerFault> {
         Ok(self.server.add_batch(bytes)?)
     }

@@ -1,3 +1,4 @@
+use crate::base_parts::KeyedParts;
 use crate::proved::Core;
 use crate::work::{self, Work, WorkStep};
 use crate::Elsewhere;
@@ -12,7 +13,7 @@ pub(crate) enum Action {
     Read(Ticket, Option<Core>),
     /// Writes the parts of a server's base at these keys. Whether all were written is told by
     /// [`super::Shard::on_base`], with this ticket.
-    WriteBase(Ticket, Vec<(Vec<u8>, Vec<u8>)>),
+    WriteBase(Ticket, KeyedParts),
     /// Looks for keys that the base of this server may have replaced.
     Sweep(u16),
     /// Deletes these keys.

@@ -1,7 +1,9 @@
 use super::{Action, ReplicaState, Shard, Ticket};
-use crate::decision::{Base, Passing};
+use crate::base_parts::KeyedParts;
+use crate::decision::Base;
 use crate::keys;
-use crate::recovery::{LogSize, BATCH_BYTES};
+use crate::recovery::{LogSize, PassedKey, BATCH_BYTES};
+use crate::snapshot_name::SnapshotName;
 use durkenzo::Stand;
 use std::time::Instant;
 
@@ -102,24 +104,41 @@ impl Shard {
                 return;
             }
         };
-        // If it fails, the log stays as long as it is, and it is tried again.
-        if let Ok(Some(Base { number, parts })) = core.base() {
-            self.log.base = parts.iter().map(|it| it.len() as u64).sum();
-            self.log_before = self.log;
-            // Keys that are deleted from now on need another base.
-            self.base_demand.had_freed = std::mem::take(&mut self.base_demand.has_freed);
-            self.tickets += 1;
-            let ticket = Ticket {
-                server,
-                number: self.tickets,
-            };
-            self.base = Some((server, BaseProgress::Writes(ticket.number)));
-            let places = parts.into_iter().enumerate();
-            let keyed = places
-                .map(|(place, it)| (keys::part(self.number, number, place as u64), it))
-                .collect();
-            actions.push(Action::WriteBase(ticket, keyed));
+        match core.base() {
+            Ok(Some(base)) => self.begin_writing(server, base, actions),
+            Ok(None) => {}
+            // The log stays as long as it is, and it is tried again.
+            Err(_) => self.base_pause.begin(now),
         }
+    }
+
+    /// Has the parts of the base written that the server has begun, and its snapshot.
+    fn begin_writing(&mut self, server: u16, base: Base, actions: &mut Vec<Action>) {
+        let Base {
+            number,
+            parts,
+            snapshot,
+        } = base;
+        // Keys that are deleted from now on need another base.
+        self.base_demand.had_freed = std::mem::take(&mut self.base_demand.has_freed);
+        self.tickets += 1;
+        let ticket = Ticket {
+            server,
+            number: self.tickets,
+        };
+        self.base = Some((server, BaseProgress::Writes(ticket.number)));
+        let keyed = (0..).zip(parts);
+        let keyed = keyed.map(|(place, it)| (keys::part(self.number, number, place), it));
+        let mut keyed: KeyedParts = keyed.collect();
+        self.snapshot = snapshot.map(|bytes| {
+            let attempt = (number, self.process, ticket.number);
+            let (name, parts) = SnapshotName::parts_of(self.number, attempt, &bytes);
+            keyed.extend(parts);
+            name
+        });
+        self.log.base = keyed.iter().map(|it| it.1.len() as u64).sum();
+        self.log_before = self.log;
+        actions.push(Action::WriteBase(ticket, keyed));
     }
 
     /// Returns whether a base is being made, or the keys that it replaced aren't deleted yet.
@@ -206,7 +225,12 @@ impl Shard {
     }
 
     /// Deletes those of the found keys that the base has replaced.
-    pub(crate) fn on_swept(&mut self, server: u16, found: &[Passing], actions: &mut Vec<Action>) {
+    pub(crate) fn on_swept(
+        &mut self,
+        server: u16,
+        found: Vec<PassedKey>,
+        actions: &mut Vec<Action>,
+    ) {
         self.sweeps = self.sweeps.saturating_sub(1);
         let Some(
             ReplicaState::Behind(core, _)
@@ -217,12 +241,9 @@ impl Shard {
             return;
         };
         let mut behind = Vec::new();
-        for it in found {
-            if let Ok(true) = core.is_behind(*it) {
-                behind.push(match *it {
-                    Passing::Batch(number) => keys::batch(self.number, number),
-                    Passing::Part(number, place) => keys::part(self.number, number, place),
-                });
+        for (passing, key) in found {
+            if let Ok(true) = core.is_behind(passing) {
+                behind.push(key);
             }
         }
         actions.push(Action::Delete(behind));

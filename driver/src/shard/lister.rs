@@ -43,9 +43,11 @@ impl Lister {
             Begin::Scan(range) => self.keys(range).map(Found::Pairs),
             Begin::Keys(range) => self.keys(range).map(Found::Keys),
             Begin::Count => self.core.count().map(Found::Count),
-            Begin::Read(_) | Begin::Change(_) | Begin::Write(_) | Begin::Numbered(..) => {
-                return None
-            }
+            Begin::Read(_)
+            | Begin::Change(_)
+            | Begin::Write(_)
+            | Begin::Numbered(..)
+            | Begin::Opaque(_) => return None,
         };
         self.has_failed |= found.is_err();
         let logged = self.at.logged;

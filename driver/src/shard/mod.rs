@@ -14,6 +14,7 @@ use crate::proved::Core;
 use crate::recovery::{LogSize, Recovered, RecoveryFault, Unrecovered};
 use crate::round::{Round, MOST_BYTES};
 use crate::run::{DecidedChange, Origin, Run};
+use crate::snapshot_name::SnapshotName;
 use crate::work::{NotDone, WorkStep};
 use crate::{Came, Elsewhere, Member, Ownership, ShardOptions, StoredRecord};
 pub(crate) use action::{Action, Ticket};
@@ -70,6 +71,8 @@ pub(crate) struct Shard {
     log: LogSize,
     /// The server that makes a base, and its progress.
     base: Option<(u16, BaseProgress)>,
+    /// The snapshot that belongs to that base, if the service has snapshots.
+    snapshot: Option<SnapshotName>,
     /// The length of the log when that base began.
     log_before: LogSize,
     /// The pause before the next base after one failed.
@@ -126,6 +129,7 @@ impl Shard {
             tickets: 0,
             log: LogSize::default(),
             base: None,
+            snapshot: None,
             log_before: LogSize::default(),
             base_pause: BasePause::default(),
             base_demand: BaseDemand::default(),

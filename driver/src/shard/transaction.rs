@@ -5,6 +5,7 @@ use crate::keys;
 use crate::lease_clock::Moment;
 use crate::proved::Core;
 use crate::round::Round;
+use crate::snapshot_name::SnapshotName;
 use crate::work::NotDone;
 use crate::ServerFault;
 use durkenzo_store::{Outcome, Revision, Transaction, WriteError};
@@ -72,6 +73,9 @@ impl Shard {
         if sent.number > 0 || sent.head.is_empty() {
             transaction = transaction.compare(record, sent.stood);
         }
+        if let Some(name) = self.snapshot_named(&sent.head) {
+            transaction = transaction.put(keys::snapshot(self.number), name.bytes());
+        }
         if !sent.head.is_empty() {
             transaction = transaction.put(head, sent.head);
         }
@@ -82,6 +86,17 @@ impl Shard {
         match sent.number == 0 || self.round.as_ref().is_some_and(Round::frees) {
             true => transaction.with_kept_room(),
             false => transaction,
+        }
+    }
+
+    /// Returns the snapshot that belongs to the base which this head is the first to name, if there is one.
+    fn snapshot_named(&self, head: &[u8]) -> Option<SnapshotName> {
+        let (_, progress) = self.base?;
+        match progress {
+            BaseProgress::Names | BaseProgress::Named(_) => {
+                self.snapshot.filter(|it| it.is_of(head))
+            }
+            BaseProgress::Writes(_) | BaseProgress::Failed => None,
         }
     }
 

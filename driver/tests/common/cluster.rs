@@ -3,8 +3,8 @@ use super::handing::{Handed, Handing};
 use super::{ask, Decide, Told};
 use durkenzo_driver::{
     Acks, Addresses, Begin, CommandFault, ControlCommand, Durable, DurableControl, Elsewhere,
-    MapReply, MapRequest, Member, Next, NotDone, Own, Reads, Refused, ShardOptions, Work,
-    WorkOutcome, WorkStep,
+    Machine, MapReply, MapRequest, Member, Next, NotDone, OpenFault, Own, Reads, Refused,
+    ShardOptions, Work, WorkOutcome, WorkStep,
 };
 use durkenzo_store::{
     Done, LeaseError, LeaseId, ReadError, Reading, Store, Transaction, Watch, Watcher, WriteError,
@@ -215,6 +215,33 @@ impl Net {
         shards: u16,
         by: impl FnOnce(Handed<Line>) -> Arc<dyn Store>,
     ) -> Node {
+        let open = |store, own| {
+            Durable::open_one(store, shards, self.shard_options(), own, Box::new(|| {}))
+        };
+        self.start_as(store, server, by, open)
+    }
+
+    /// Starts a process with this server of machines.
+    pub fn start_machines<M: Machine>(
+        self: &Arc<Net>,
+        store: &Arc<dyn Store>,
+        server: u16,
+        shards: u16,
+    ) -> Node {
+        let open = |store, own| {
+            let shard_options = self.shard_options();
+            Durable::open_machines::<M>(store, shards, shard_options, Some(own), Box::new(|| {}))
+        };
+        self.start_as(store, server, |line| Arc::new(line), open)
+    }
+
+    fn start_as(
+        self: &Arc<Net>,
+        store: &Arc<dyn Store>,
+        server: u16,
+        by: impl FnOnce(Handed<Line>) -> Arc<dyn Store>,
+        open: impl FnOnce(Arc<dyn Store>, Own) -> Result<Durable, OpenFault>,
+    ) -> Node {
         let (line, beyond) = (Line::to(store), store.clone());
         let (is_cut, is_deaf) = (line.is_cut.clone(), line.is_deaf.clone());
         let (meanwhile, sent_there) = (line.meanwhile.clone(), line.sent.clone());
@@ -229,8 +256,7 @@ impl Net {
             elsewhere: Box::new(elsewhere),
             acks: Acks::AsRead,
         };
-        let durable = Durable::open_one(store, shards, self.shard_options(), own, Box::new(|| {}));
-        let durable = Arc::new(durable.expect("shards"));
+        let durable = Arc::new(open(store, own).expect("shards"));
         let place = (Arc::downgrade(&durable), is_cut.clone());
         self.places.lock().unwrap().insert(server, place);
         let (net, sender) = (self.clone(), Arc::downgrade(&durable));

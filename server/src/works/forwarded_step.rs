@@ -50,7 +50,8 @@ impl ForwardedRequest for ForwardedStep {
             | Begin::Keys(_)
             | Begin::Count
             | Begin::Change(_)
-            | Begin::Write(_) => self.answer(&refusal_of_version(server)),
+            | Begin::Write(_)
+            | Begin::Opaque(_) => self.answer(&refusal_of_version(server)),
         }
     }
 

@@ -86,7 +86,8 @@ impl ForwardedRequest for LinkedStep {
             | Begin::Scan(_)
             | Begin::Change(_)
             | Begin::Write(_)
-            | Begin::Numbered(..) => FIRST_TABLE,
+            | Begin::Numbered(..)
+            | Begin::Opaque(_) => FIRST_TABLE,
         };
         let bytes = work.spell();
         ForwardedMessage { bytes, table }

@@ -94,7 +94,9 @@ impl KeyedWork {
             Begin::Change(keys) => (BeginKind::Change, keys.clone()),
             Begin::Write(_) | Begin::Numbered(..) => (BeginKind::Write, Vec::new()),
             // No command with keys begins like this.
-            Begin::Scan(_) | Begin::Keys(_) | Begin::Count => (BeginKind::Write, Vec::new()),
+            Begin::Scan(_) | Begin::Keys(_) | Begin::Count | Begin::Opaque(_) => {
+                (BeginKind::Write, Vec::new())
+            }
         };
         let work = KeyedWork {
             spec,
