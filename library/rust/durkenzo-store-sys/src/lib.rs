@@ -37,6 +37,7 @@ mod permit;
 mod relay;
 #[allow(unsafe_code)]
 mod server;
+#[allow(unsafe_code)]
 mod server_calls;
 
 pub use calls::{Head, Reply};

@@ -22,9 +22,13 @@ type Part = unsafe extern "C" fn(*mut Handle, usize, *mut PartNumbers, *mut u8, 
 type IsBehind = unsafe extern "C" fn(*mut Handle, bool, u64, u64, *mut bool) -> u32;
 type Writes<T> = unsafe extern "C" fn(*mut Handle, *mut T) -> u32;
 
-/// The calls that servers of all services have. A handle must go to the calls of one service only: if it goes to those
-/// of another, memory is misused.
-pub trait ServerCalls {
+/// The calls that servers of all services have.
+///
+/// # Safety
+///
+/// All calls must be those of one service, as its header declares them. If a handle goes to the calls of another one,
+/// memory is misused.
+pub unsafe trait ServerCalls {
     /// The reply to a request that was made.
     type Reply: Copy + Default;
     /// Makes a server.
@@ -69,7 +73,8 @@ pub trait ServerCalls {
 #[derive(Debug)]
 pub enum Texts {}
 
-impl ServerCalls for Texts {
+// SAFETY: these are the calls of `durkenzo_store.h`.
+unsafe impl ServerCalls for Texts {
     type Reply = Reply;
     const NEW: New = calls::durkenzo_server;
     const CLOSE: unsafe extern "C" fn(*mut Handle) = calls::durkenzo_server_close;
@@ -96,8 +101,9 @@ impl ServerCalls for Texts {
 #[derive(Debug)]
 pub enum Places {}
 
+// SAFETY: these are the calls of `durkenzo_relay.h`.
 #[cfg(feature = "relay")]
-impl ServerCalls for Places {
+unsafe impl ServerCalls for Places {
     type Reply = u64;
     const NEW: New = calls::durkenzo_relay;
     const CLOSE: unsafe extern "C" fn(*mut Handle) = calls::durkenzo_relay_close;
