@@ -4,7 +4,7 @@
 mod beside;
 
 use beside::Member;
-use durkenzo_store::{KeyChange, LeaseId, Pair, Revision};
+use durkenzo_store::{EtcdProtocol, KeyChange, LeaseId, Pair, Revision};
 use serde_json::{json, Value};
 use simulation::chance::Chance;
 use simulation::etcd::{
@@ -429,7 +429,7 @@ fn answers_as_a_real_etcd_does() {
     let steps = std::env::var("DURKENZO_ETCD_STEPS");
     let steps = steps.ok().and_then(|it| it.parse().ok()).unwrap_or(STEPS);
     for seed in SEEDS {
-        let Some(member) = Member::start(&[]) else {
+        let Some(member) = Member::start(EtcdProtocol::Json, &[]) else {
             eprintln!("etcd isn't installed: nothing is compared with it");
             return;
         };

@@ -62,7 +62,10 @@ pub use error::{CompactError, ReadError, WriteError};
 #[cfg(feature = "etcd")]
 pub use etcd::{Access, Etcd, StartError};
 #[cfg(feature = "etcd-client")]
-pub use etcd::{AnswerBody, Environment, EtcdClient, Later, MemberAnswer, MemberCall, NoAnswer};
+pub use etcd::{
+    AnswerBody, Environment, EtcdClient, EtcdProtocol, GrpcStatus, Later, MemberAnswer, MemberCall,
+    NoAnswer, UnknownProtocol,
+};
 pub use key_prefix::{KeyPrefix, PrefixFault};
 pub use lease::{LeaseError, LeaseId};
 pub use measured_store::MeasuredStore;

@@ -3,12 +3,14 @@
 mod beside;
 
 use beside::relay::Relay;
-use beside::{Member, PATIENCE};
-use durkenzo_store::{Access, Etcd, Outcome, Revision, Seen, Store, Transaction};
+use beside::{store_in, Member, PATIENCE};
+use durkenzo_store::{Etcd, EtcdProtocol, Outcome, Revision, Seen, Store, Transaction};
 use std::sync::mpsc::{self, Receiver};
 
 /// How many keys are watched. One is deleted while the watch is away.
 const KEYS: usize = 4;
+
+by_each_protocol!(tells_what_was_deleted_up_to_a_compaction,);
 
 fn made(store: &Etcd, transaction: Transaction) -> Revision {
     match store.make(transaction).expect("an outcome") {
@@ -36,13 +38,13 @@ fn keys_with(told: &Receiver<Seen>, last: &[u8]) -> Vec<Vec<u8>> {
 }
 
 /// Deletes a key while a watch is away, and compacts so many revisions after that.
-fn told_after(later: usize) -> Option<Vec<Vec<u8>>> {
-    let member = Member::start(&[])?;
+fn told_after(protocol: EtcdProtocol, later: usize) -> Option<Vec<Vec<u8>>> {
+    let member = Member::start(protocol, &[])?;
     let (relay, store) = (Relay::before(&member.endpoint), member.store());
     let put = |it: Transaction, at: usize| it.put(format!("key/{at}"), "");
     made(&store, (0..KEYS).fold(Transaction::new(), put));
     let (tell, told) = mpsc::channel();
-    let followed = Etcd::new(Access::new([relay.endpoint.as_str()])).expect("an address");
+    let followed = store_in(&[&relay.endpoint], PATIENCE, protocol);
     let watcher = Box::new(move |seen| drop(tell.send(seen)));
     let _watch = followed.watch(b"key/", watcher).expect("a watch");
     // The watch is following once it tells a change.
@@ -60,10 +62,9 @@ fn told_after(later: usize) -> Option<Vec<Vec<u8>>> {
 }
 
 /// This also holds if the deletion is the compaction's own revision, at which etcd keeps no deletions.
-#[test]
-fn tells_what_was_deleted_up_to_a_compaction() {
+fn tells_what_was_deleted_up_to_a_compaction(protocol: EtcdProtocol) {
     for later in [0, 1] {
-        let Some(keys) = told_after(later) else {
+        let Some(keys) = told_after(protocol, later) else {
             return;
         };
         let wanted = [1, 2, 3, 5, 6].map(|it| format!("key/{it}").into_bytes());

@@ -1,13 +1,18 @@
 //! A store's callback may be its last owner, and a watch goes on without the store.
 mod beside;
 
-use beside::Member;
-use durkenzo_store::{Access, Embedded, Etcd, Seen, Store, Transaction};
+use beside::{store_in, Member};
+use durkenzo_store::{Embedded, EtcdProtocol, Seen, Store, Transaction};
 use std::sync::mpsc::{self, RecvTimeoutError};
 use std::sync::Arc;
 use std::time::Duration;
 
 const PATIENCE: Duration = Duration::from_secs(60);
+
+by_each_protocol!(
+    a_store_on_etcd_may_be_dropped_by_what_it_tells,
+    a_watch_on_etcd_goes_on_once_its_store_is_dropped,
+);
 
 /// Returns whether the store's thread goes on once a callback has dropped the store, which has no other owner then.
 fn is_let_go(store: impl Store + 'static) -> bool {
@@ -32,18 +37,17 @@ fn a_store_in_this_process_may_be_dropped_by_what_it_tells() {
     assert!(is_let_go(Embedded::in_memory()));
 }
 
-#[test]
-fn a_store_on_etcd_may_be_dropped_by_what_it_tells() {
-    let access = Access {
-        patience: Duration::from_secs(1),
-        ..Access::new(["http://127.0.0.1:1"])
-    };
-    assert!(is_let_go(Etcd::new(access).expect("an address")));
+fn a_store_on_etcd_may_be_dropped_by_what_it_tells(protocol: EtcdProtocol) {
+    let patience = Duration::from_secs(1);
+    assert!(is_let_go(store_in(
+        &["http://127.0.0.1:1"],
+        patience,
+        protocol
+    )));
 }
 
-#[test]
-fn a_watch_on_etcd_goes_on_once_its_store_is_dropped() {
-    let Some(member) = Member::start(&[]) else {
+fn a_watch_on_etcd_goes_on_once_its_store_is_dropped(protocol: EtcdProtocol) {
+    let Some(member) = Member::start(protocol, &[]) else {
         return;
     };
     let (tell, told) = mpsc::channel();

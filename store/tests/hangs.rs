@@ -3,9 +3,9 @@
 mod beside;
 
 use beside::relay::Relay;
-use beside::{Member, PATIENCE};
+use beside::{store_in, Member, PATIENCE};
 use durkenzo_store::{
-    Access, Etcd, LeaseError, Outcome, Revision, Seen, Store, Transaction, Watch, WriteError,
+    Etcd, EtcdProtocol, LeaseError, Outcome, Revision, Seen, Store, Transaction, Watch, WriteError,
 };
 use std::net::TcpListener;
 use std::sync::mpsc::{self, Receiver};
@@ -26,17 +26,21 @@ const FOREVER: Duration = Duration::from_secs(600);
 /// How long a watch is silent.
 const SILENCE: Duration = Duration::from_secs(6);
 /// How many watches a process has.
-const WATCHES: usize = 4;
+const WATCHES: u64 = 4;
 /// How often a member may be given up because a busy machine makes it answer late.
 const TRIES: usize = 5;
 
-fn on(endpoints: &[&str], patience: Duration) -> Etcd {
-    let access = Access {
-        patience,
-        ..Access::new(endpoints.iter().copied())
-    };
-    Etcd::new(access).expect("addresses")
-}
+by_each_protocol!(
+    watches_on_though_a_member_hangs,
+    keeps_a_lease_though_a_member_hangs,
+    keeps_a_lease_by_a_member_that_hung_when_it_was_asked_first,
+    keeps_a_lease_by_a_member_that_is_slow_where_others_hang,
+    keeps_no_lease_where_all_members_hang,
+    keeps_a_lease_though_somebody_who_is_told_hangs,
+    passes_over_a_member_that_begins_no_watch,
+    leaves_no_silent_member_that_is_well,
+    compares_by_what_most_members_have,
+);
 
 fn watch(store: &Etcd) -> (Watch, Receiver<Seen>) {
     let (tell, told) = mpsc::channel();
@@ -48,9 +52,10 @@ fn watch(store: &Etcd) -> (Watch, Receiver<Seen>) {
 }
 
 /// Writes through these members until the write is known to be made, because they may have no leader.
-fn write(members: &[&Member]) -> Revision {
+fn write(protocol: EtcdProtocol, members: &[&Member]) -> Revision {
     let endpoints: Vec<_> = members.iter().map(|it| it.endpoint.as_str()).collect();
-    let (store, end) = (on(&endpoints, SHORT), Instant::now() + PATIENCE);
+    let store = store_in(&endpoints, SHORT, protocol);
+    let end = Instant::now() + PATIENCE;
     loop {
         match store.make(Transaction::new().put("a", "1")) {
             Ok(Outcome::Made(revision)) => return revision,
@@ -75,32 +80,30 @@ fn hear(told: &Receiver<Seen>, last: &mut Revision, revision: Revision) {
     }
 }
 
-#[test]
-fn watches_on_though_a_member_hangs() {
-    let Some(members) = Member::start_cluster(3) else {
+fn watches_on_though_a_member_hangs(protocol: EtcdProtocol) {
+    let Some(members) = Member::start_cluster(protocol, 3) else {
         return;
     };
     let [first, second, third] = &members[..] else {
         panic!("three began");
     };
     let endpoints: Vec<_> = members.iter().map(|it| it.endpoint.as_str()).collect();
-    let store = on(&endpoints, PATIENCE);
+    let store = store_in(&endpoints, PATIENCE, protocol);
     let ((_watch, told), mut last) = (watch(&store), Revision::NEVER);
-    hear(&told, &mut last, write(&[first]));
+    hear(&told, &mut last, write(protocol, &[first]));
     first.stop();
-    hear(&told, &mut last, write(&[second, third]));
+    hear(&told, &mut last, write(protocol, &[second, third]));
     first.go_on();
-    hear(&told, &mut last, write(&[first]));
+    hear(&told, &mut last, write(protocol, &[first]));
 }
 
 /// Less than a lease's length passes until another member keeps it.
-#[test]
-fn keeps_a_lease_though_a_member_hangs() {
-    let Some(members) = Member::start_cluster(3) else {
+fn keeps_a_lease_though_a_member_hangs(protocol: EtcdProtocol) {
+    let Some(members) = Member::start_cluster(protocol, 3) else {
         return;
     };
     let endpoints: Vec<_> = members.iter().map(|it| it.endpoint.as_str()).collect();
-    let store = on(&endpoints, PATIENCE);
+    let store = store_in(&endpoints, PATIENCE, protocol);
     let lease = store.grant(LEASE).expect("a lease");
     members[0].stop();
     let end = Instant::now() + 2 * LEASE;
@@ -116,43 +119,39 @@ fn keeps_a_lease_though_a_member_hangs() {
 type Delay = fn(usize) -> Duration;
 
 /// Returns whether a lease is kept through members behind relays with these delays.
-fn is_kept_by(delays: [Delay; 3], patience: Duration) -> Option<bool> {
-    let member = Member::start(&[])?;
+fn is_kept_by(protocol: EtcdProtocol, delays: [Delay; 3], patience: Duration) -> Option<bool> {
+    let member = Member::start(protocol, &[])?;
     let lease = member.store().grant(FOREVER).expect("a lease");
     let relays = delays.map(|it| Relay::slow(&member.endpoint, it));
     let endpoints: Vec<_> = relays.iter().map(|it| it.endpoint.as_str()).collect();
-    let is_kept = on(&endpoints, patience).keep(lease).is_ok();
+    let is_kept = store_in(&endpoints, patience, protocol).keep(lease).is_ok();
     let callers = relays.map(|it| it.callers());
     assert!(callers.iter().all(|it| *it <= 2), "{callers:?}");
     Some(is_kept)
 }
 
 /// A member that was asked early waits for the leader that hangs, although it has another leader by now.
-#[test]
-fn keeps_a_lease_by_a_member_that_hung_when_it_was_asked_first() {
+fn keeps_a_lease_by_a_member_that_hung_when_it_was_asked_first(protocol: EtcdProtocol) {
     let at_first: Delay = |before| if before == 0 { FOREVER } else { Duration::ZERO };
-    let is_kept = is_kept_by([|_| FOREVER, at_first, at_first], PATIENCE);
+    let is_kept = is_kept_by(protocol, [|_| FOREVER, at_first, at_first], PATIENCE);
     assert_ne!(is_kept, Some(false));
 }
 
 /// A slow call goes on while others are asked.
-#[test]
-fn keeps_a_lease_by_a_member_that_is_slow_where_others_hang() {
+fn keeps_a_lease_by_a_member_that_is_slow_where_others_hang(protocol: EtcdProtocol) {
     let slow: Delay = |before| if before == 0 { SLOW } else { FOREVER };
-    let is_kept = is_kept_by([slow, |_| FOREVER, |_| FOREVER], PATIENCE);
+    let is_kept = is_kept_by(protocol, [slow, |_| FOREVER, |_| FOREVER], PATIENCE);
     assert_ne!(is_kept, Some(false));
 }
 
-#[test]
-fn keeps_no_lease_where_all_members_hang() {
-    let is_kept = is_kept_by([|_| FOREVER; 3], 2 * SLOW);
+fn keeps_no_lease_where_all_members_hang(protocol: EtcdProtocol) {
+    let is_kept = is_kept_by(protocol, [|_| FOREVER; 3], 2 * SLOW);
     assert_ne!(is_kept, Some(true));
 }
 
 /// A slow callback for a transaction's outcome may delay other callbacks, but no lease.
-#[test]
-fn keeps_a_lease_though_somebody_who_is_told_hangs() {
-    let Some(member) = Member::start(&[]) else {
+fn keeps_a_lease_though_somebody_who_is_told_hangs(protocol: EtcdProtocol) {
+    let Some(member) = Member::start(protocol, &[]) else {
         return;
     };
     let store = member.store();
@@ -173,46 +172,43 @@ fn keeps_a_lease_though_somebody_who_is_told_hangs() {
     drop(let_go);
 }
 
-#[test]
-fn passes_over_a_member_that_begins_no_watch() {
-    let Some(mut member) = Member::start(&[]) else {
+fn passes_over_a_member_that_begins_no_watch(protocol: EtcdProtocol) {
+    let Some(mut member) = Member::start(protocol, &[]) else {
         return;
     };
     // Its system accepts callers, and nobody answers them.
     let listener = TcpListener::bind(("127.0.0.1", 0)).expect("a port");
     let hangs = format!("http://{}", listener.local_addr().expect("its address"));
-    let store = on(&[&member.endpoint, &hangs], PATIENCE);
+    let store = store_in(&[&member.endpoint, &hangs], PATIENCE, protocol);
     let (_watch, told) = watch(&store);
     member.begin_again();
-    hear(&told, &mut { Revision::NEVER }, write(&[&member]));
+    hear(&told, &mut { Revision::NEVER }, write(protocol, &[&member]));
 }
 
 /// Returns how often a silent member is asked while watches follow it, how often it may be asked for one of them, and
 /// how many watches were begun.
-fn asked_of_silent(member: &Member) -> (u64, u64, usize) {
-    let relay = Relay::before(&member.endpoint);
-    let store = on(&[&relay.endpoint], PATIENCE);
+fn asked_of_silent(protocol: EtcdProtocol, member: &Member) -> (u64, u64, u64) {
+    let (store, begun) = (member.store(), member.calls("Watch"));
     let watches: Vec<_> = (0..WATCHES).map(|_| watch(&store)).collect();
-    let (asked, began) = (relay.calls("/v3/kv/range"), Instant::now());
+    let (asked, began) = (member.calls("Range"), Instant::now());
     thread::sleep(SILENCE);
-    let asked = (relay.calls("/v3/kv/range") - asked) as u64;
+    let asked = member.calls("Range") - asked;
     let most = began.elapsed().as_secs() + 1;
 
-    let revision = write(&[member]);
+    let revision = write(protocol, &[member]);
     for (_, told) in &watches {
         hear(told, &mut { Revision::NEVER }, revision);
     }
-    (asked, most, relay.calls("/v3/watch"))
+    (asked, most, member.calls("Watch") - begun)
 }
 
-#[test]
-fn leaves_no_silent_member_that_is_well() {
-    let Some(member) = Member::start(&[]) else {
+fn leaves_no_silent_member_that_is_well(protocol: EtcdProtocol) {
+    let Some(member) = Member::start(protocol, &[]) else {
         return;
     };
-    let is_well = |it: &(u64, u64, usize)| (2..=it.1).contains(&it.0) && it.2 == WATCHES;
+    let is_well = |it: &(u64, u64, u64)| (2..=it.1).contains(&it.0) && it.2 == WATCHES;
     let tries: Vec<_> = (0..TRIES)
-        .map(|_| asked_of_silent(&member))
+        .map(|_| asked_of_silent(protocol, &member))
         .take_while(|it| !is_well(it))
         .collect();
     assert!(tries.len() < TRIES, "asked, at most, watches: {tries:?}");
@@ -220,16 +216,15 @@ fn leaves_no_silent_member_that_is_well() {
 
 /// A member answers a transaction that only compares from its own data, unless it is made to ask. Others may have been
 /// told more.
-#[test]
-fn compares_by_what_most_members_have() {
-    let Some(members) = Member::start_cluster(3) else {
+fn compares_by_what_most_members_have(protocol: EtcdProtocol) {
+    let Some(members) = Member::start_cluster(protocol, 3) else {
         return;
     };
     let [first, second, third] = &members[..] else {
         panic!("three began");
     };
-    let revision = write(&[first]);
-    let store = on(&[&third.endpoint], SHORT);
+    let revision = write(protocol, &[first]);
+    let store = store_in(&[&third.endpoint], SHORT, protocol);
     let compared = || store.make(Transaction::new().compare("a", revision));
     let is_made = |it: &Result<Outcome, WriteError>| matches!(it, Ok(Outcome::Made(_)));
     let await_made = || {

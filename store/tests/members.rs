@@ -1,19 +1,30 @@
 //! The results of a store in etcd if members don't answer, or refuse. If etcd isn't installed, the tests do nothing.
 mod beside;
+#[path = "beside/scripted.rs"]
+mod scripted;
 
-use beside::{free_port, Folder, Member, PATIENCE};
+use beside::relay::Relay;
+use beside::{free_port, store_in, Folder, Member, PATIENCE};
 use durkenzo_store::{
-    Access, Etcd, LeaseError, Outcome, ReadError, Revision, Seen, StartError, Store, StoreSize,
-    Transaction, WriteError,
+    Access, Etcd, EtcdProtocol, LeaseError, Outcome, ReadError, Revision, Seen, StartError, Store,
+    StoreSize, Transaction, WriteError,
 };
-use std::io::{Read, Write};
+use scripted::{read_until, scripted, Scripted};
+use std::iter;
 use std::net::TcpListener;
 use std::path::Path;
-use std::process::Command;
+use std::process::{Command, Stdio};
 use std::sync::mpsc;
 use std::thread;
 use std::time::{Duration, Instant};
 
+/// A value by which a call is known to have come.
+const GOT: &str = "it is written";
+/// The answer to a transaction that was made at revision 5.
+const MADE: &[u8] = b"\x0a\x02\x18\x05\x10\x01";
+/// How many values are large, and how large.
+const LARGE: usize = 32;
+const MEBIBYTE: usize = 1 << 20;
 const ASIDE: Duration = Duration::from_secs(60);
 const SHORT: Duration = Duration::from_secs(2);
 /// How many write at the same time.
@@ -21,13 +32,22 @@ const WRITERS: usize = 64;
 /// How long they begin again as long as none of them is told wrongly.
 const ENOUGH: Duration = Duration::from_secs(120);
 
-fn on(endpoints: &[&str], patience: Duration) -> Etcd {
-    let access = Access {
-        patience,
-        ..Access::new(endpoints.iter().copied())
-    };
-    Etcd::new(access).expect("addresses")
-}
+by_each_protocol!(
+    says_that_no_member_got_it,
+    says_that_an_outcome_is_not_known,
+    reads_and_watches_large_values,
+    passes_over_members_that_are_not_there,
+    passes_over_members_that_refuse_for_themselves,
+    says_that_the_quota_is_reached,
+    says_nothing_of_what_takes_the_last_room,
+    says_that_it_is_too_large,
+    compacts_history_though_a_member_is_away,
+    a_reading_whose_moment_is_compacted_begins_again,
+    watches_on_after_a_member_was_away,
+    gives_its_name_and_password,
+    knows_a_member_by_its_address,
+    speaks_tls,
+);
 
 fn nobody() -> String {
     format!("http://127.0.0.1:{}", free_port())
@@ -57,9 +77,8 @@ fn reads_addresses() {
     ));
 }
 
-#[test]
-fn says_that_no_member_got_it() {
-    let store = on(&[&nobody(), &nobody()], PATIENCE);
+fn says_that_no_member_got_it(protocol: EtcdProtocol) {
+    let store = store_in(&[&nobody(), &nobody()], PATIENCE, protocol);
     let made = store.make(Transaction::new().put("a", "1"));
     assert!(matches!(made, Err(WriteError::Unavailable(_))), "{made:?}");
     assert!(matches!(
@@ -68,9 +87,17 @@ fn says_that_no_member_got_it() {
     ));
 }
 
+/// Returns whether a member has the call that it is to have got. Before that it may have got only the head of the
+/// connection.
+fn is_got(protocol: EtcdProtocol, asked: &[u8]) -> bool {
+    match protocol {
+        EtcdProtocol::Json => asked.ends_with(b"}"),
+        EtcdProtocol::Grpc => asked.windows(GOT.len()).any(|it| it == GOT.as_bytes()),
+    }
+}
+
 /// A member takes a call and falls silent, or hangs up, so it may have made it.
-#[test]
-fn says_that_an_outcome_is_not_known() {
+fn says_that_an_outcome_is_not_known(protocol: EtcdProtocol) {
     for hangs_up in [true, false] {
         let listener = TcpListener::bind(("127.0.0.1", 0)).expect("a port");
         let endpoint = format!("http://{}", listener.local_addr().expect("its address"));
@@ -78,23 +105,111 @@ fn says_that_an_outcome_is_not_known() {
             let mut streams = Vec::new();
             for stream in listener.incoming() {
                 let mut stream = stream.expect("a caller");
-                let _ = stream.read(&mut [0; 4_096]);
+                read_until(&mut stream, |asked| is_got(protocol, asked));
                 if !hangs_up {
                     streams.push(stream);
                 }
             }
         });
-        let made = on(&[&endpoint, &nobody()], SHORT).make(Transaction::new().put("a", "1"));
+        let store = store_in(&[&endpoint, &nobody()], SHORT, protocol);
+        let made = store.make(Transaction::new().put("a", GOT));
         assert!(matches!(made, Err(WriteError::Unknown(_))), "{made:?}");
     }
 }
 
+/// Without its status, an answer by gRPC may not be whole. With one, it may still be about another call.
 #[test]
-fn passes_over_members_that_are_not_there() {
-    let Some(member) = Member::start(&[]) else {
+fn an_answer_by_grpc_needs_its_status() {
+    let answer = |code, message| {
+        let json = ("200 OK", "{}");
+        let script = iter::repeat(Scripted {
+            json,
+            grpc: (code, "no", message),
+        });
+        let endpoint = scripted(EtcdProtocol::Grpc, script);
+        let store = store_in(&[&endpoint], PATIENCE, EtcdProtocol::Grpc);
+        (
+            store.make(Transaction::new().put("a", "1")),
+            store.read(&[b"a"]),
+        )
+    };
+    for (code, message) in [(None, Some(MADE)), (None, None), (Some(0), None)] {
+        let (made, read) = answer(code, message);
+        assert!(matches!(made, Err(WriteError::Unknown(_))), "{made:?}");
+        assert!(matches!(read, Err(ReadError::Unavailable(_))), "{read:?}");
+    }
+    let (made, _) = answer(Some(0), Some(MADE));
+    assert!(matches!(made, Ok(Outcome::Made(Revision(5)))), "{made:?}");
+    for message in [None, Some(MADE)] {
+        let (made, read) = answer(Some(7), message);
+        assert!(matches!(made, Err(WriteError::Denied(_))), "{made:?}");
+        assert!(matches!(read, Err(ReadError::Denied(_))), "{read:?}");
+    }
+}
+
+/// All calls of a member by gRPC go on one connection, at the same time, too.
+#[test]
+fn calls_by_grpc_share_a_connection() {
+    let Some(member) = Member::start(EtcdProtocol::Grpc, &[]) else {
         return;
     };
-    let store = on(&[&nobody(), &member.endpoint, &nobody()], PATIENCE);
+    let relay = Relay::before(&member.endpoint);
+    let store = store_in(&[&relay.endpoint], PATIENCE, EtcdProtocol::Grpc);
+    let put = |at: usize| store.make(Transaction::new().put(format!("{at}"), "1"));
+    thread::scope(|scope| {
+        let put = &put;
+        let writers: Vec<_> = (0..WRITERS)
+            .map(|at| scope.spawn(move || put(at)))
+            .collect();
+        for it in writers {
+            made(it.join().expect("an outcome"));
+        }
+    });
+    // On a machine that stops for a while, a connection may seem silent.
+    assert!(relay.callers() < WRITERS / 8, "{}", relay.callers());
+    relay.cut();
+    relay.mend();
+    let read = store.read(&[b"1"]).expect("it connects again");
+    assert_eq!(read.pairs.len(), 1);
+}
+
+/// Pages and changes of many megabytes come whole.
+fn reads_and_watches_large_values(protocol: EtcdProtocol) {
+    let Some(member) = Member::start(protocol, &[]) else {
+        return;
+    };
+    let store = member.store();
+    let (tell, told) = mpsc::channel();
+    let watcher = Box::new(move |seen| drop(tell.send(seen)));
+    let _watch = store.watch(b"a/", watcher).expect("a watch");
+    for at in 0..LARGE {
+        made(store.make(Transaction::new().put(format!("a/{at}"), vec![7; MEBIBYTE])));
+    }
+    let read = store.read_all(b"a/").expect("a reading").pairs;
+    assert_eq!(read.len(), LARGE);
+    assert!(read.iter().all(|it| it.value == vec![7; MEBIBYTE]));
+    let mut changes = 0;
+    while changes < LARGE {
+        match told.recv_timeout(ASIDE).expect("all are told") {
+            Seen::All(it) => assert!(it.pairs.is_empty()),
+            Seen::Changes(_, some) => {
+                let is_whole = |it: &Option<Vec<u8>>| it.as_ref().map(Vec::len) == Some(MEBIBYTE);
+                assert!(some.iter().all(|it| is_whole(&it.value)));
+                changes += some.len();
+            }
+        }
+    }
+}
+
+fn passes_over_members_that_are_not_there(protocol: EtcdProtocol) {
+    let Some(member) = Member::start(protocol, &[]) else {
+        return;
+    };
+    let store = store_in(
+        &[&nobody(), &member.endpoint, &nobody()],
+        PATIENCE,
+        protocol,
+    );
     for _ in 0..4 {
         store
             .make(Transaction::new().put("a", "1"))
@@ -104,40 +219,30 @@ fn passes_over_members_that_are_not_there() {
 }
 
 /// The answers of a learner, and of a member without a leader in place of a stream.
-const FOR_ITSELF: [&str; 2] = [
-    r#"{"error":"no","message":"etcdserver: rpc not supported for learner","code":14}"#,
-    r#"{"error":{"grpc_code":14,"http_code":503,"message":"etcdserver: no leader"}}"#,
+const FOR_ITSELF: [Scripted; 2] = [
+    Scripted {
+        json: (
+            "503 No",
+            r#"{"error":"no","message":"etcdserver: rpc not supported for learner","code":14}"#,
+        ),
+        grpc: (Some(14), "etcdserver: rpc not supported for learner", None),
+    },
+    Scripted {
+        json: (
+            "503 No",
+            r#"{"error":{"grpc_code":14,"http_code":503,"message":"etcdserver: no leader"}}"#,
+        ),
+        grpc: (Some(14), "etcdserver: no leader", None),
+    },
 ];
 
-/// Returns a member that answers each call with this.
-fn refuser(told: &'static str) -> String {
-    let listener = TcpListener::bind(("127.0.0.1", 0)).expect("a port");
-    let endpoint = format!("http://{}", listener.local_addr().expect("its address"));
-    thread::spawn(move || {
-        for stream in listener.incoming() {
-            let mut stream = stream.expect("a caller");
-            let (mut asked, mut some) = (Vec::new(), [0; 4_096]);
-            // A call is over with its JSON.
-            while !asked.ends_with(b"}") {
-                match stream.read(&mut some) {
-                    Ok(length @ 1..) => asked.extend_from_slice(&some[..length]),
-                    _ => break,
-                }
-            }
-            let head = format!("Content-Length: {}\r\nConnection: close", told.len());
-            let _ = write!(stream, "HTTP/1.1 503 No\r\n{head}\r\n\r\n{told}");
-        }
-    });
-    endpoint
-}
-
-#[test]
-fn passes_over_members_that_refuse_for_themselves() {
-    let Some(member) = Member::start(&[]) else {
+fn passes_over_members_that_refuse_for_themselves(protocol: EtcdProtocol) {
+    let Some(member) = Member::start(protocol, &[]) else {
         return;
     };
     for told in FOR_ITSELF {
-        let beside = || on(&[&refuser(told), &member.endpoint], PATIENCE);
+        let refuser = || scripted(protocol, iter::repeat(told));
+        let beside = || store_in(&[&refuser(), &member.endpoint], PATIENCE, protocol);
         beside().read(&[b"a"]).expect("another one is read");
         let lease = beside().grant(ASIDE).expect("another one grants it");
         beside().keep(lease).expect("another one keeps it");
@@ -147,14 +252,13 @@ fn passes_over_members_that_refuse_for_themselves() {
         assert!(matches!(made, Err(WriteError::Unknown(_))), "{made:?}");
         store.make(put()).expect("another one makes it");
         // No lease has ended because of that.
-        let kept = on(&[&refuser(told)], PATIENCE).keep(lease);
+        let kept = store_in(&[&refuser()], PATIENCE, protocol).keep(lease);
         assert!(matches!(kept, Err(LeaseError::Unavailable(_))), "{kept:?}");
     }
 }
 
-#[test]
-fn says_that_the_quota_is_reached() {
-    let Some(member) = Member::start(&["--quota-backend-bytes", "4000000"]) else {
+fn says_that_the_quota_is_reached(protocol: EtcdProtocol) {
+    let Some(member) = Member::start(protocol, &["--quota-backend-bytes", "4000000"]) else {
         return;
     };
     let store = member.store();
@@ -219,9 +323,8 @@ fn empty(store: &Etcd) {
 
 /// Among the transactions under way while the last room is taken, a member makes some, and still answers that there is
 /// no space. These aren't told as not made.
-#[test]
-fn says_nothing_of_what_takes_the_last_room() {
-    let Some(member) = Member::start(&["--quota-backend-bytes", "4000000"]) else {
+fn says_nothing_of_what_takes_the_last_room(protocol: EtcdProtocol) {
+    let Some(member) = Member::start(protocol, &["--quota-backend-bytes", "4000000"]) else {
         return;
     };
     let (store, end) = (member.store(), Instant::now() + ENOUGH);
@@ -242,9 +345,8 @@ fn says_nothing_of_what_takes_the_last_room() {
     assert!(taken > 0, "none of these was made");
 }
 
-#[test]
-fn says_that_it_is_too_large() {
-    let Some(member) = Member::start(&[]) else {
+fn says_that_it_is_too_large(protocol: EtcdProtocol) {
+    let Some(member) = Member::start(protocol, &[]) else {
         return;
     };
     let made = member
@@ -286,14 +388,13 @@ fn uses_more_than(store: &Etcd, bytes: u64) -> StoreSize {
 }
 
 /// A member that is away compacts once it is back.
-#[test]
-fn compacts_history_though_a_member_is_away() {
-    let Some(mut members) = Member::start_cluster(3) else {
+fn compacts_history_though_a_member_is_away(protocol: EtcdProtocol) {
+    let Some(mut members) = Member::start_cluster(protocol, 3) else {
         return;
     };
     let endpoints: Vec<_> = members.iter().map(|it| it.endpoint.clone()).collect();
     let endpoints: Vec<_> = endpoints.iter().map(String::as_str).collect();
-    let store = on(&endpoints, PATIENCE);
+    let store = store_in(&endpoints, PATIENCE, protocol);
     for _ in 0..100 {
         made(store.make(Transaction::new().put("a", vec![7; 200_000])));
     }
@@ -307,50 +408,56 @@ fn compacts_history_though_a_member_is_away() {
     store.compact_history().expect("again");
 }
 
-/// Returns a member that answers its calls with these, one after another.
-fn answerer(told: &'static [(&'static str, &'static str)]) -> String {
-    let listener = TcpListener::bind(("127.0.0.1", 0)).expect("a port");
-    let endpoint = format!("http://{}", listener.local_addr().expect("its address"));
-    thread::spawn(move || {
-        for (stream, (status, body)) in listener.incoming().zip(told) {
-            let mut stream = stream.expect("a caller");
-            let (mut asked, mut some) = (Vec::new(), [0; 4_096]);
-            while !asked.ends_with(b"}") {
-                match stream.read(&mut some) {
-                    Ok(length @ 1..) => asked.extend_from_slice(&some[..length]),
-                    _ => break,
-                }
-            }
-            let head = format!("Content-Length: {}\r\nConnection: close", body.len());
-            let _ = write!(stream, "HTTP/1.1 {status}\r\n{head}\r\n\r\n{body}");
-        }
-    });
-    endpoint
-}
-
 /// The first page of a reading, the refusal of the second one after a compaction, and both pages at a later moment.
-const PAGES: [(&str, &str); 4] = [
-    (
-        "200 OK",
-        r#"{"header":{"revision":"5"},"kvs":[{"key":"YS8x","value":"","mod_revision":"3"}],"more":true}"#,
-    ),
-    (
-        "400 No",
-        r#"{"code":11,"message":"etcdserver: mvcc: required revision has been compacted"}"#,
-    ),
-    (
-        "200 OK",
-        r#"{"header":{"revision":"7"},"kvs":[{"key":"YS8x","value":"","mod_revision":"6"}],"more":true}"#,
-    ),
-    (
-        "200 OK",
-        r#"{"header":{"revision":"8"},"kvs":[{"key":"YS8y","value":"","mod_revision":"4"}]}"#,
-    ),
+const PAGES: [Scripted; 4] = [
+    Scripted {
+        json: (
+            "200 OK",
+            r#"{"header":{"revision":"5"},"kvs":[{"key":"YS8x","value":"","mod_revision":"3"}],"more":true}"#,
+        ),
+        grpc: (
+            Some(0),
+            "",
+            Some(b"\x0a\x02\x18\x05\x12\x07\x0a\x03a/1\x18\x03\x18\x01"),
+        ),
+    },
+    Scripted {
+        json: (
+            "400 No",
+            r#"{"code":11,"message":"etcdserver: mvcc: required revision has been compacted"}"#,
+        ),
+        grpc: (
+            Some(11),
+            "etcdserver: mvcc: required revision has been compacted",
+            None,
+        ),
+    },
+    Scripted {
+        json: (
+            "200 OK",
+            r#"{"header":{"revision":"7"},"kvs":[{"key":"YS8x","value":"","mod_revision":"6"}],"more":true}"#,
+        ),
+        grpc: (
+            Some(0),
+            "",
+            Some(b"\x0a\x02\x18\x07\x12\x07\x0a\x03a/1\x18\x06\x18\x01"),
+        ),
+    },
+    Scripted {
+        json: (
+            "200 OK",
+            r#"{"header":{"revision":"8"},"kvs":[{"key":"YS8y","value":"","mod_revision":"4"}]}"#,
+        ),
+        grpc: (
+            Some(0),
+            "",
+            Some(b"\x0a\x02\x18\x08\x12\x07\x0a\x03a/2\x18\x04"),
+        ),
+    },
 ];
 
-#[test]
-fn a_reading_whose_moment_is_compacted_begins_again() {
-    let read = on(&[&answerer(&PAGES)], PATIENCE).read_all(b"a/");
+fn a_reading_whose_moment_is_compacted_begins_again(protocol: EtcdProtocol) {
+    let read = store_in(&[&scripted(protocol, PAGES)], PATIENCE, protocol).read_all(b"a/");
     let read = read.expect("it begins again");
     assert_eq!(read.revision, Revision(7));
     let revisions: Vec<u64> = read.pairs.iter().map(|it| it.revision.0).collect();
@@ -358,9 +465,8 @@ fn a_reading_whose_moment_is_compacted_begins_again() {
 }
 
 /// A member is killed and starts again, and then one whose past is compacted meanwhile.
-#[test]
-fn watches_on_after_a_member_was_away() {
-    let Some(mut member) = Member::start(&[]) else {
+fn watches_on_after_a_member_was_away(protocol: EtcdProtocol) {
+    let Some(mut member) = Member::start(protocol, &[]) else {
         return;
     };
     let (store, (tell, told)) = (member.store(), mpsc::channel());
@@ -406,9 +512,8 @@ fn made(found: Result<Outcome, WriteError>) -> Revision {
     }
 }
 
-#[test]
-fn gives_its_name_and_password() {
-    let Some(member) = Member::start(&[]) else {
+fn gives_its_name_and_password(protocol: EtcdProtocol) {
+    let Some(member) = Member::start(protocol, &[]) else {
         return;
     };
     member.post("/v3/auth/user/add", r#"{"name":"root","password":"open"}"#);
@@ -420,6 +525,7 @@ fn gives_its_name_and_password() {
         Etcd::new(Access {
             user,
             patience: PATIENCE,
+            protocol,
             ..Access::new([member.endpoint.as_str()])
         })
         .expect("an address")
@@ -449,6 +555,48 @@ fn vouch(folder: &Path) -> bool {
         .is_ok_and(|it| it.status.success())
 }
 
+/// In the handshake a member must choose HTTP/2 for gRPC. Otherwise it gets no call.
+#[test]
+fn calls_by_grpc_no_member_that_speaks_no_http2() {
+    let folder = Folder::new();
+    if !vouch(folder.path()) {
+        eprintln!("openssl isn't installed: nobody speaks TLS");
+        return;
+    }
+    let (port, end) = (free_port(), Instant::now() + ASIDE);
+    let mut member = Command::new("openssl")
+        .args([
+            "s_server",
+            "-quiet",
+            "-accept",
+            &format!("127.0.0.1:{port}"),
+        ])
+        .args(["-cert", "localhost.pem", "-key", "localhost.key"])
+        .current_dir(folder.path())
+        .stdin(Stdio::piped())
+        .stdout(Stdio::null())
+        .stderr(Stdio::null())
+        .spawn()
+        .expect("openssl runs");
+    let access = Access {
+        roots: Some(folder.path().join("ca.pem")),
+        patience: PATIENCE,
+        protocol: EtcdProtocol::Grpc,
+        ..Access::new([format!("https://localhost:{port}")])
+    };
+    let store = Etcd::new(access).expect("a file");
+    let made = || store.make(Transaction::new().put("a", "1"));
+    // It may not listen yet.
+    let mut told = made();
+    while !matches!(&told, Err(WriteError::Unavailable(it)) if it.contains("HTTP/2")) {
+        assert!(Instant::now() < end, "{told:?}");
+        thread::sleep(Duration::from_millis(100));
+        told = made();
+    }
+    member.kill().expect("it runs");
+    member.wait().expect("it has ended");
+}
+
 /// Checks that something is written within some time.
 fn writes(store: &Etcd) {
     let end = Instant::now() + ASIDE;
@@ -459,8 +607,7 @@ fn writes(store: &Etcd) {
 }
 
 /// A member is identified by its certificate, by a name or by an address.
-#[test]
-fn knows_a_member_by_its_address() {
+fn knows_a_member_by_its_address(protocol: EtcdProtocol) {
     let folder = Folder::new();
     let file = |name: &str| folder.path().join(name);
     if !vouch(folder.path()) {
@@ -475,7 +622,7 @@ fn knows_a_member_by_its_address() {
         "--key-file",
         &text("client.key"),
     ];
-    let Some(member) = Member::start_with_tls(&options) else {
+    let Some(member) = Member::start_with_tls(protocol, &options) else {
         return;
     };
     let of = |endpoint: &str| {
@@ -483,6 +630,7 @@ fn knows_a_member_by_its_address() {
         Etcd::new(Access {
             roots,
             patience: PATIENCE,
+            protocol,
             ..Access::new([endpoint])
         })
         .expect("a file")
@@ -492,8 +640,7 @@ fn knows_a_member_by_its_address() {
     assert!(matches!(made, Err(WriteError::Unavailable(_))), "{made:?}");
 }
 
-#[test]
-fn speaks_tls() {
+fn speaks_tls(protocol: EtcdProtocol) {
     let folder = Folder::new();
     let file = |name: &str| folder.path().join(name);
     let text = |name: &str| file(name).to_string_lossy().into_owned();
@@ -508,7 +655,7 @@ fn speaks_tls() {
         &text("localhost.key"),
     ];
     let asks = ["--client-cert-auth", "--trusted-ca-file", &text("ca.pem")];
-    let Some(member) = Member::start_with_tls(&[&options[..], &asks].concat()) else {
+    let Some(member) = Member::start_with_tls(protocol, &[&options[..], &asks].concat()) else {
         return;
     };
     let of = |roots: Option<&str>, identity: Option<(&str, &str)>| {
@@ -518,6 +665,7 @@ fn speaks_tls() {
             roots,
             identity,
             patience: PATIENCE,
+            protocol,
             ..Access::new([member.endpoint.as_str()])
         })
     };

@@ -1,10 +1,14 @@
 use crate::target::{holds, Target};
 use durkenzo_store::{KeyChange, LeaseId, Outcome, Pair, Revision, StoreSize};
+use prost::Message;
 use serde_json::{json, Value};
 
 #[path = "../../../store/src/etcd/call_error.rs"]
 #[allow(dead_code)]
 mod call_error;
+#[path = "../../../store/src/etcd/grpc_frame.rs"]
+#[allow(dead_code)]
+mod grpc_frame;
 #[path = "../../../store/src/etcd/wire.rs"]
 #[allow(dead_code)]
 mod wire;
@@ -15,7 +19,7 @@ use wire::{
     WatchRequest, WatchResult,
 };
 
-/// The answers of etcd's gateway.
+/// The answers of etcd, in JSON by its gateway and by gRPC.
 pub struct EtcdAnswers;
 
 impl Target for EtcdAnswers {
@@ -49,7 +53,7 @@ impl Target for EtcdAnswers {
         let _ = serde_json::from_slice::<Granted>(input).map(|it| it.id);
         let _ = serde_json::from_slice::<Streamed<KeepAliveResponse>>(input);
         let _ = serde_json::from_slice::<MemberStatus>(input).map(StoreSize::from);
-        Ok(())
+        by_grpc(input)
     }
 
     fn words(&self) -> &[&'static [u8]] {
@@ -87,11 +91,43 @@ impl Target for EtcdAnswers {
             json!({"result": {"TTL": "5"}, "ID": "7", "code": 5, "message": "lease not found"}),
             range,
         ];
-        answers
-            .iter()
-            .map(|it| it.to_string().into_bytes())
-            .collect()
+        let in_json = answers.iter().map(|it| it.to_string().into_bytes());
+        in_json.chain(messages(&answers)).collect()
     }
+}
+
+/// Returns the same answers by gRPC: a transaction's, a range's and an event's, and one in its frame.
+fn messages(answers: &[Value]) -> Vec<Vec<u8>> {
+    let transaction: TransactionResult = read(&answers[1]).expect("it is one");
+    let watch: WatchResult = read(&answers[2]["result"]).expect("it is one");
+    let range: RangeResult = read(&answers[4]).expect("it is one");
+    let framed = grpc_frame::framed(&wire::Nothing {}).expect("it is short");
+    vec![
+        transaction.encode_to_vec(),
+        watch.encode_to_vec(),
+        range.encode_to_vec(),
+        framed,
+    ]
+}
+
+/// Reads an answer by gRPC. What JSON says of pairs, it says, too.
+fn by_grpc(input: &[u8]) -> Result<(), String> {
+    if let Ok(found) = TransactionResult::decode(input) {
+        of_transaction(found.outcome())?;
+    }
+    if let Ok(found) = RangeResult::decode(input) {
+        let revision = found.revision();
+        of_range(revision, found.pairs.into_iter().map(Pair::from).collect())?;
+    }
+    if let Ok(found) = WatchResult::decode(input) {
+        of_watch(found)?;
+    }
+    let _ = MemberStatus::decode(input).map(StoreSize::from);
+    let _ = grpc_frame::read::<KeepAliveResponse>(input);
+    let (mut held, before) = (input.to_vec(), input.len());
+    let taken = grpc_frame::take::<Granted>(&mut held);
+    let is_right = held.len() == before || !matches!(taken, Ok(None));
+    holds(is_right, || "bytes are lost".to_owned())
 }
 
 /// Its pairs must be the same if they are written anew.

@@ -110,7 +110,11 @@ impl Site {
             async move { Ok::<_, Infallible>(site.answer(&request).await) }
         };
         let service = service_fn(answer);
-        if let Err(error) = Http::new().serve_connection(stream, service).await {
+        // Otherwise it would speak HTTP/2, too, which only the store needs.
+        let served = Http::new()
+            .http1_only(true)
+            .serve_connection(stream, service);
+        if let Err(error) = served.await {
             tracing::debug!(%error, "a connection to the page has ended");
         }
     }

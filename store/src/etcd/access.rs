@@ -1,4 +1,5 @@
 use super::tls::Tls;
+use super::EtcdProtocol;
 use hyper::http::uri::Scheme;
 use hyper::Uri;
 use openssl::error::ErrorStack;
@@ -21,10 +22,12 @@ pub struct Access {
     pub identity: Option<(PathBuf, PathBuf)>,
     /// How long to wait for an answer.
     pub patience: Duration,
+    /// The protocol of calls.
+    pub protocol: EtcdProtocol,
 }
 
 impl Access {
-    /// Makes the access to these members, without a user, and with five seconds for an answer.
+    /// Makes the access to these members in JSON, without a user, and with five seconds for an answer.
     pub fn new<E: Into<String>>(endpoints: impl IntoIterator<Item = E>) -> Access {
         Access {
             endpoints: endpoints.into_iter().map(Into::into).collect(),
@@ -32,6 +35,7 @@ impl Access {
             roots: None,
             identity: None,
             patience: Duration::from_secs(5),
+            protocol: EtcdProtocol::default(),
         }
     }
 
@@ -47,7 +51,8 @@ impl Access {
     /// Returns the TLS configuration, if a member's address asks for it. Otherwise no file is read.
     pub(super) fn tls(&self) -> Result<Option<Tls>, StartError> {
         let is_asked = self.members()?.iter().any(|it| it.starts_with("https:"));
-        let tls = is_asked.then(|| Tls::new(self.roots.as_deref(), self.identity.as_ref()));
+        let roots = self.roots.as_deref();
+        let tls = is_asked.then(|| Tls::new(roots, self.identity.as_ref(), self.protocol));
         tls.transpose()
     }
 }

@@ -12,16 +12,18 @@ pub(super) enum CallError {
     Refused(GrpcStatus),
 }
 
-/// The answer of a member that refuses a call.
-#[derive(Clone, Debug, Default, Deserialize)]
+/// The status of a call. With another code than 0 a member refuses the call.
+#[derive(Clone, Debug, Default, Deserialize, PartialEq, Eq)]
 #[serde(default)]
-pub(super) struct GrpcStatus {
+pub struct GrpcStatus {
     /// A code of gRPC.
-    code: u32,
-    message: String,
+    pub code: u32,
+    /// Why, in the member's words.
+    pub message: String,
 }
 
 impl GrpcStatus {
+    const SUCCESS: u32 = 0;
     const INVALID: u32 = 3;
     const NOT_FOUND: u32 = 5;
     const EXISTS: u32 = 6;
@@ -39,6 +41,11 @@ impl GrpcStatus {
         GrpcStatus::OUT_OF_RANGE,
         GrpcStatus::UNAUTHENTICATED,
     ];
+
+    /// Returns whether the member did the call.
+    pub(super) fn is_success(&self) -> bool {
+        self.code == GrpcStatus::SUCCESS
+    }
 
     /// Returns whether it says why. An answer in place of a stream doesn't, in its own words.
     pub(super) fn is_told(&self) -> bool {
@@ -79,6 +86,26 @@ impl CallError {
     /// Returns the error that a member's answer is longer than allowed.
     pub(super) fn too_long() -> CallError {
         CallError::Unknown("etcd's answer is too long".to_owned())
+    }
+
+    /// Returns the error that a member's answer, or an element of its stream, can't be read.
+    pub(super) fn unread(why: impl ToString) -> CallError {
+        CallError::Unknown(format!("etcd's answer can't be read: {}", why.to_string()))
+    }
+
+    /// Returns the error that a member's answer by gRPC has no status, so that nobody knows whether it is whole.
+    pub(super) fn without_status() -> CallError {
+        CallError::Unknown("etcd's answer has no status of gRPC".to_owned())
+    }
+
+    /// Returns the error that a member answers with this status of HTTP, and with nothing that says more.
+    pub(super) fn of_http(status: u16) -> CallError {
+        CallError::Unknown(format!("etcd answered {status}"))
+    }
+
+    /// Returns the error that an answer doesn't reach its end.
+    pub(super) fn broken(error: impl ToString) -> CallError {
+        CallError::Unknown(error.to_string())
     }
 
     /// Returns the error that no member answers in time.

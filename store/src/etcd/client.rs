@@ -1,16 +1,16 @@
 use super::call_error::CallError;
 use super::environment::Environment;
-use super::gateway::{Gateway, RANGE};
+use super::gateway::Gateway;
+use super::method::Method;
 use super::watch_loop;
 use super::wire::{
-    AlarmRequest, Alarms, Compaction, Granted, KeepAliveResponse, LeaseRequest, MemberStatus,
-    Nothing, RangeRequest, RangeResult, TransactionRequest, TransactionResult,
+    AlarmRequest, Alarms, Compaction, GrantRequest, Granted, KeepAliveResponse, LeaseRequest,
+    MemberStatus, Nothing, RangeRequest, RangeResult, TransactionRequest, TransactionResult,
 };
 use crate::{
     CompactError, LeaseError, LeaseId, Outcome, Pair, ReadError, Reading, Revision, StoreSize,
     Transaction, Watcher, WriteError,
 };
-use serde::de::IgnoredAny;
 use std::fmt;
 use std::future::Future;
 use std::num::NonZeroUsize;
@@ -61,7 +61,7 @@ impl EtcdClient {
         let request = TransactionRequest::of(transaction);
         let found = self
             .gateway
-            .once::<TransactionResult>("/v3/kv/txn", &request)
+            .once::<TransactionResult>(Method::Transaction, &request)
             .await;
         let outcome = found
             .map(TransactionResult::outcome)
@@ -126,8 +126,8 @@ impl EtcdClient {
     ///
     /// As [`LeaseError`] says.
     pub async fn grant(&self, length: Duration) -> Result<LeaseId, LeaseError> {
-        let asked = LeaseRequest::of_length(length);
-        let granted = self.gateway.again::<Granted>("/v3/lease/grant", &asked);
+        let asked = GrantRequest::of_length(length);
+        let granted = self.gateway.again::<Granted>(Method::Grant, &asked);
         let granted = granted.await.map_err(|it| it.of_lease(LeaseId(0)))?;
         Ok(LeaseId(granted.id))
     }
@@ -139,8 +139,10 @@ impl EtcdClient {
     /// As [`LeaseError`] says.
     pub async fn keep(&self, lease: LeaseId) -> Result<(), LeaseError> {
         let asked = LeaseRequest::of(lease);
-        let path = "/v3/lease/keepalive";
-        let found = self.gateway.first::<KeepAliveResponse>(path, &asked).await;
+        let kept = self
+            .gateway
+            .first::<KeepAliveResponse>(Method::KeepAlive, &asked);
+        let found = kept.await;
         match found.map_err(|it| it.of_lease(lease))?.length > 0 {
             true => Ok(()),
             false => Err(LeaseError::Ended(lease)),
@@ -154,7 +156,7 @@ impl EtcdClient {
     /// As [`LeaseError`] says.
     pub async fn revoke(&self, lease: LeaseId) -> Result<(), LeaseError> {
         let asked = LeaseRequest::of(lease);
-        let ended = self.gateway.again::<IgnoredAny>("/v3/lease/revoke", &asked);
+        let ended = self.gateway.again::<Nothing>(Method::Revoke, &asked);
         ended.await.map(drop).map_err(|it| it.of_lease(lease))
     }
 
@@ -164,8 +166,10 @@ impl EtcdClient {
     ///
     /// As [`ReadError`] says.
     pub async fn size(&self) -> Result<StoreSize, ReadError> {
-        let path = "/v3/maintenance/status";
-        let found = self.gateway.again::<MemberStatus>(path, &Nothing {}).await;
+        let told = self
+            .gateway
+            .again::<MemberStatus>(Method::Status, &Nothing {});
+        let found = told.await;
         found.map(StoreSize::from).map_err(CallError::of_read)
     }
 
@@ -238,7 +242,7 @@ async fn read_parts(gateway: &Gateway, keys: &[Vec<u8>]) -> Result<Reading, Call
     {
         let request = TransactionRequest::reading(part, found.revision);
         let result = gateway
-            .again::<TransactionResult>("/v3/kv/txn", &request)
+            .again::<TransactionResult>(Method::Transaction, &request)
             .await?;
         if found.revision == Revision::NEVER {
             found.revision = result.revision();
@@ -258,7 +262,7 @@ async fn read_pages(gateway: &Gateway, prefix: &[u8]) -> Result<Reading, CallErr
     let mut from = prefix.to_vec();
     loop {
         let asked = RangeRequest::page(&from, prefix, PAGE, found.revision);
-        let page = gateway.again::<RangeResult>(RANGE, &asked).await?;
+        let page = gateway.again::<RangeResult>(Method::Range, &asked).await?;
         if found.revision == Revision::NEVER {
             found.revision = page.revision();
         }
@@ -273,7 +277,7 @@ async fn read_pages(gateway: &Gateway, prefix: &[u8]) -> Result<Reading, CallErr
 
 /// Reads this range at the present.
 async fn read_range(gateway: &Gateway, asked: &RangeRequest) -> Result<Reading, ReadError> {
-    let found = gateway.again::<RangeResult>(RANGE, asked).await;
+    let found = gateway.again::<RangeResult>(Method::Range, asked).await;
     let found = found.map_err(CallError::of_read)?;
     Ok(Reading {
         revision: found.revision(),
@@ -291,7 +295,7 @@ async fn read_keys(
     loop {
         let asked = RangeRequest::keys(&from, end, KEYS);
         let page = gateway
-            .again::<RangeResult>(RANGE, &asked)
+            .again::<RangeResult>(Method::Range, &asked)
             .await
             .map_err(CallError::of_read)?;
         let has_more = page.more;
@@ -307,7 +311,7 @@ async fn read_keys(
 /// member answers from its own data, which may be out of date.
 async fn present(gateway: &Gateway) -> Result<Revision, CompactError> {
     let asked = RangeRequest::counting(b"\0");
-    match gateway.again::<RangeResult>(RANGE, &asked).await {
+    match gateway.again::<RangeResult>(Method::Range, &asked).await {
         Err(CallError::Refused(it)) if it.is_of_user() => Ok(read(gateway, &[]).await?.revision),
         found => found
             .map(|it| it.revision())
@@ -324,9 +328,7 @@ async fn compact_history(
     changed: impl FnOnce(Compaction) -> Compaction,
 ) -> Result<(), CompactError> {
     let asked = changed(Compaction::up_to(present(gateway).await?));
-    let found = gateway
-        .again::<IgnoredAny>("/v3/kv/compaction", &asked)
-        .await;
+    let found = gateway.again::<Nothing>(Method::Compact, &asked).await;
     match found {
         Err(CallError::Refused(it)) if it.is_of_compacted() => Ok(()),
         found => found.map(drop).map_err(CallError::of_compaction),
@@ -337,13 +339,13 @@ async fn compact_history(
 async fn compact(gateway: &Gateway) -> Result<(), CompactError> {
     compact_history(gateway, Compaction::awaited).await?;
     let given_back = gateway
-        .each::<IgnoredAny>("/v3/maintenance/defragment", &Nothing {})
+        .each::<Nothing>(Method::Defragment, &Nothing {})
         .await;
-    let path = "/v3/maintenance/alarm";
-    let found = gateway.again::<Alarms>(path, &AlarmRequest::all()).await;
+    let asked = AlarmRequest::all();
+    let found = gateway.again::<Alarms>(Method::Alarm, &asked).await;
     for alarm in found.map_err(CallError::of_compaction)?.alarms {
         let ended = AlarmRequest::end(alarm);
-        let found = gateway.again::<IgnoredAny>(path, &ended).await;
+        let found = gateway.again::<Nothing>(Method::Alarm, &ended).await;
         found.map_err(CallError::of_compaction)?;
     }
     given_back.map_err(CallError::of_compaction)

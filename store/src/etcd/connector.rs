@@ -70,5 +70,8 @@ impl Service<Uri> for Connector {
 async fn met(tls: &Tls, host: &str, socket: TcpStream) -> Result<MemberConnection, Unreached> {
     let mut stream = SslStream::new(tls.session(host)?, socket)?;
     Pin::new(&mut stream).connect().await?;
+    if !tls.is_spoken(stream.ssl()) {
+        return Err("it speaks no HTTP/2".into());
+    }
     Ok(MemberConnection::Tls(Box::new(stream)))
 }

@@ -1,4 +1,6 @@
 //! The environment of the etcd client: members that answer calls, and time.
+use super::call_error::GrpcStatus;
+use super::etcd_protocol::EtcdProtocol;
 use std::fmt;
 use std::future::Future;
 use std::pin::Pin;
@@ -10,6 +12,11 @@ pub type Later<'a, T> = Pin<Box<dyn Future<Output = T> + Send + 'a>>;
 
 /// Calls members of etcd, and tells the time. A program does that with sockets, and a simulation without.
 pub trait Environment: Send + Sync + 'static {
+    /// Returns the protocol in which members are called. It stays the same.
+    fn protocol(&self) -> EtcdProtocol {
+        EtcdProtocol::Json
+    }
+
     /// Sends a call to a member. The call may be dropped before it is answered. The member may still have done it.
     fn call(&self, call: MemberCall) -> Later<'static, Result<MemberAnswer, NoAnswer>>;
 
@@ -20,18 +27,18 @@ pub trait Environment: Send + Sync + 'static {
     fn wait_until(&self, moment: Instant) -> Later<'static, ()>;
 }
 
-/// A call of a member's JSON gateway.
+/// A call of a member.
 #[derive(Clone)]
 pub struct MemberCall {
     /// The number of the member that is called, from 0 on.
     pub member: usize,
-    /// The path of the call, for instance `/v3/kv/txn`.
+    /// The path of the call, in JSON for instance `/v3/kv/txn`, and in gRPC `/etcdserverpb.KV/Txn`.
     pub path: &'static str,
     /// The token of a user, if one is needed.
     pub token: Option<String>,
     /// Whether the member must end its answer, a stream, once it reaches no leader.
     pub needs_leader: bool,
-    /// The request, in JSON.
+    /// The request, as the protocol has it: in JSON, or a frame of gRPC.
     pub asked: Vec<u8>,
 }
 
@@ -55,7 +62,7 @@ pub struct MemberAnswer {
 }
 
 impl MemberAnswer {
-    /// Returns whether the member did the call.
+    /// Returns whether HTTP has a success.
     pub(super) fn is_success(&self) -> bool {
         (200..300).contains(&self.status)
     }
@@ -65,6 +72,11 @@ impl MemberAnswer {
 pub trait AnswerBody: Send {
     /// Waits for bytes, and appends them. Returns false at the end.
     fn append_next<'a>(&'a mut self, held: &'a mut Vec<u8>) -> Later<'a, Result<bool, NoAnswer>>;
+
+    /// Returns the status of gRPC, once it has come: in place of bytes, or after their end. In JSON there is none.
+    fn status(&self) -> Option<GrpcStatus> {
+        None
+    }
 }
 
 /// Why a member doesn't answer.

@@ -1,20 +1,16 @@
-use super::call_error::{CallError, GrpcStatus};
+use super::call_error::CallError;
 use super::environment::{Environment, MemberAnswer, MemberCall, NoAnswer};
-use super::line_stream::{LineStream, LONGEST};
+use super::etcd_protocol::EtcdProtocol;
+use super::member_stream::MemberStream;
+use super::method::Method;
 use super::pulse::Pulse;
 use super::race::{before, Calls};
-use super::wire::{RangeRequest, Streamed};
-use serde::de::{DeserializeOwned, IgnoredAny};
-use serde::{Deserialize, Serialize};
+use super::wire::{Asked, Authenticated, Credentials, Nothing, RangeRequest, Told};
 use std::future::Future;
 use std::sync::atomic::{AtomicUsize, Ordering};
 use std::sync::{Arc, Mutex, MutexGuard, PoisonError};
 use std::time::{Duration, Instant};
 
-/// The path of readings.
-pub(super) const RANGE: &str = "/v3/kv/range";
-/// The path of watches, which tell changes as a stream.
-const WATCH: &str = "/v3/watch";
 /// How long a member may take to do something to all of its data.
 const LONG: Duration = Duration::from_secs(30);
 /// How long a member may take to begin a watch, and to answer whether it is well. Members without a leader mostly elect
@@ -24,10 +20,11 @@ const SHORT: Duration = Duration::from_secs(2);
 const BRIEF: Duration = Duration::from_secs(1);
 /// The most calls of a member at the same time, and how often it is asked without a pause if all fail.
 const BESIDE: usize = 2;
-/// The gateways of the members. A call goes to the member that answered last, and to the next one if that can't be
-/// reached.
+
+/// The way to the members. A call goes to the member that answered last, and to the next one if that can't be reached.
 pub(super) struct Gateway {
     environment: Arc<dyn Environment>,
+    protocol: EtcdProtocol,
     members: usize,
     /// How long to wait for an answer.
     patience: Duration,
@@ -39,19 +36,8 @@ pub(super) struct Gateway {
     pulses: Vec<Pulse>,
 }
 
-#[derive(Serialize)]
-struct Credentials<'a> {
-    name: &'a str,
-    password: &'a str,
-}
-
-#[derive(Deserialize)]
-struct Authenticated {
-    token: String,
-}
-
 impl Gateway {
-    /// Makes the gateways of so many members, at least one.
+    /// Makes the way to so many members, at least one.
     pub(super) fn new(
         environment: Arc<dyn Environment>,
         members: usize,
@@ -59,6 +45,7 @@ impl Gateway {
         user: Option<(String, String)>,
     ) -> Gateway {
         Gateway {
+            protocol: environment.protocol(),
             environment,
             members,
             patience,
@@ -99,35 +86,38 @@ impl Gateway {
     }
 
     /// Calls a member. If the first one may have got the call, no other is called.
-    pub(super) async fn once<T: DeserializeOwned>(
+    pub(super) async fn once<T: Told>(
         &self,
-        path: &'static str,
-        asked: &impl Serialize,
+        method: Method,
+        asked: &impl Asked,
     ) -> Result<T, CallError> {
-        let call = |member| self.ask(member, path, asked);
+        let call = |member| self.ask(member, method, asked);
         self.reach(self.patience, &call).await
     }
 
     /// Calls a member. If it doesn't answer, or refuses for its own reasons, calls the others in turn. So the call must
     /// be one that may be done twice.
-    pub(super) async fn again<T: DeserializeOwned>(
+    pub(super) async fn again<T: Told>(
         &self,
-        path: &'static str,
-        asked: &impl Serialize,
+        method: Method,
+        asked: &impl Asked,
     ) -> Result<T, CallError> {
-        let call = |member| self.ask(member, path, asked);
+        let call = |member| self.ask(member, method, asked);
         self.in_turn(self.patience, &call).await
     }
 
     /// Calls each member that can be reached, one after another. Each may take minutes. After a failure, none is
     /// called.
-    pub(super) async fn each<T: DeserializeOwned>(
+    pub(super) async fn each<T: Told>(
         &self,
-        path: &'static str,
-        asked: &impl Serialize,
+        method: Method,
+        asked: &impl Asked,
     ) -> Result<(), CallError> {
         for member in 0..self.members {
-            match self.within(LONG, self.ask::<T>(member, path, asked)).await {
+            match self
+                .within(LONG, self.ask::<T>(member, method, asked))
+                .await
+            {
                 Ok(_) | Err(CallError::Unreachable(_)) => {}
                 Err(error) => return Err(error),
             }
@@ -137,12 +127,12 @@ impl Gateway {
 
     /// Calls a member that answers with a stream, and returns the stream's first element. If none comes soon, also asks
     /// other members. So the call must be one that may be done twice.
-    pub(super) async fn first<T: DeserializeOwned>(
+    pub(super) async fn first<T: Told>(
         &self,
-        path: &'static str,
-        asked: &impl Serialize,
+        method: Method,
+        asked: &impl Asked,
     ) -> Result<T, CallError> {
-        let call = |member| self.first_of(member, path, asked);
+        let call = |member| self.first_of(member, method, asked);
         self.within(self.patience, self.beside(call)).await
     }
 
@@ -150,10 +140,12 @@ impl Gateway {
     pub(super) async fn watch(
         &self,
         member: usize,
-        asked: &impl Serialize,
-    ) -> Result<LineStream, CallError> {
-        let found = self.within(SHORT, self.send(member, WATCH, asked)).await?;
-        Ok(LineStream::new(found.body))
+        asked: &impl Asked,
+    ) -> Result<MemberStream, CallError> {
+        let asked = self.protocol.written(asked)?;
+        let begun = self.as_user(member, || self.post(member, Method::Watch, asked.clone()));
+        let found = self.within(SHORT, begun).await?;
+        Ok(self.protocol.stream(found))
     }
 
     /// Returns whether this member itself, and no other for it, can read the revision of a key. For that it must ask a
@@ -161,7 +153,7 @@ impl Gateway {
     pub(super) async fn is_well(&self, member: usize, key: &[u8]) -> bool {
         let question = async {
             let asked = RangeRequest::counting(key);
-            let found = self.ask::<IgnoredAny>(member, RANGE, &asked);
+            let found = self.ask::<Nothing>(member, Method::Range, &asked);
             match self.within(SHORT, found).await {
                 Ok(_) => true,
                 // If the user may not see the key, the refusal comes after the others were asked.
@@ -253,55 +245,54 @@ impl Gateway {
     }
 
     /// Returns the first element of this member's stream.
-    async fn first_of<T: DeserializeOwned>(
+    async fn first_of<T: Told>(
         &self,
         member: usize,
-        path: &'static str,
-        asked: &impl Serialize,
+        method: Method,
+        asked: &impl Asked,
     ) -> Result<T, CallError> {
-        let found = self.send(member, path, asked).await?;
-        let told: Streamed<T> = LineStream::new(found.body).next().await?;
-        let error = || CallError::Unknown("a member's stream begins with an error".to_owned());
-        told.result.ok_or_else(error)
+        let asked = self.protocol.written(asked)?;
+        let first = || async {
+            let found = self.post(member, method, asked.clone()).await?;
+            self.protocol.stream(found).next().await
+        };
+        self.as_user(member, first).await
     }
 
     /// Asks only this member.
-    async fn ask<T: DeserializeOwned>(
+    async fn ask<T: Told>(
         &self,
         member: usize,
-        path: &'static str,
-        asked: &impl Serialize,
+        method: Method,
+        asked: &impl Asked,
     ) -> Result<T, CallError> {
-        read(&whole(self.send(member, path, asked).await?).await?)
+        let asked = self.protocol.written(asked)?;
+        self.as_user(member, || self.answered(member, method, asked.clone()))
+            .await
     }
 
-    /// Sends a member a call with the user's token. If the token has ended, gets a new one.
-    async fn send(
+    /// Makes a call of this member with the user's token. If the token has ended, gets a new one.
+    async fn as_user<T, F: Future<Output = Result<T, CallError>>>(
         &self,
         member: usize,
-        path: &'static str,
-        asked: &impl Serialize,
-    ) -> Result<MemberAnswer, CallError> {
-        let bytes =
-            serde_json::to_vec(asked).map_err(|error| CallError::Unreachable(error.to_string()))?;
-        match self.post(member, path, bytes.clone()).await {
+        call: impl Fn() -> F,
+    ) -> Result<T, CallError> {
+        match call().await {
             Err(CallError::Refused(it)) if it.is_of_token() && self.user.is_some() => {
                 self.authenticate(member).await?;
-                self.post(member, path, bytes).await
+                call().await
             }
             found => found,
         }
     }
 
     async fn authenticate(&self, member: usize) -> Result<(), CallError> {
-        let Some((name, password)) = &self.user else {
+        let Some((name, password)) = self.user.clone() else {
             return Ok(());
         };
-        let asked = serde_json::to_vec(&Credentials { name, password })
-            .map_err(|error| CallError::Unreachable(error.to_string()))?;
-        let found = self.post(member, "/v3/auth/authenticate", asked).await?;
-        let found: Authenticated = read(&whole(found).await?)?;
-        *self.token() = Some(found.token);
+        let asked = self.protocol.written(&Credentials { name, password })?;
+        let found = self.answered::<Authenticated>(member, Method::Authenticate, asked);
+        *self.token() = Some(found.await?.token);
         Ok(())
     }
 
@@ -323,25 +314,34 @@ impl Gateway {
             .compare_exchange(member, next, Ordering::Relaxed, Ordering::Relaxed);
     }
 
+    /// Posts the call to this member, and returns its whole answer.
+    async fn answered<T: Told>(
+        &self,
+        member: usize,
+        method: Method,
+        asked: Vec<u8>,
+    ) -> Result<T, CallError> {
+        let found = self.post(member, method, asked).await?;
+        self.protocol.read(found).await
+    }
+
     /// Posts the call to this member.
     async fn post(
         &self,
         member: usize,
-        path: &'static str,
+        method: Method,
         asked: Vec<u8>,
     ) -> Result<MemberAnswer, CallError> {
         let call = MemberCall {
             member,
-            path,
+            path: method.path(self.protocol),
             token: self.token().clone(),
-            needs_leader: path == WATCH,
+            needs_leader: method == Method::Watch,
             asked,
         };
-        match self.environment.call(call).await {
-            Ok(found) if found.is_success() => Ok(found),
-            Ok(found) => Err(refusal(found).await),
-            Err(error) => Err(error.into()),
-        }
+        self.protocol
+            .accepted(self.environment.call(call).await?)
+            .await
     }
 }
 
@@ -359,39 +359,4 @@ fn with_room(under_way: &[usize], from: usize) -> Option<usize> {
     let members = (from..).map(|it| it % under_way.len());
     let mut members = members.take(under_way.len());
     members.find(|it| under_way[*it] < BESIDE)
-}
-
-/// Returns the whole answer of a member. It must not be longer than allowed.
-async fn whole(found: MemberAnswer) -> Result<Vec<u8>, CallError> {
-    let (mut body, mut held) = (found.body, Vec::new());
-    while body.append_next(&mut held).await.map_err(broken)? {
-        if held.len() > LONGEST {
-            return Err(CallError::too_long());
-        }
-    }
-    Ok(held)
-}
-
-/// Returns the error of an answer that doesn't reach its end.
-fn broken(error: NoAnswer) -> CallError {
-    CallError::Unknown(error.to_string())
-}
-
-fn read<T: DeserializeOwned>(bytes: &[u8]) -> Result<T, CallError> {
-    serde_json::from_slice(bytes)
-        .map_err(|error| CallError::Unknown(format!("etcd's answer can't be read: {error}")))
-}
-
-/// Returns the answer of a member that refuses a call.
-async fn refusal(found: MemberAnswer) -> CallError {
-    let status = found.status;
-    match whole(found)
-        .await
-        .ok()
-        .and_then(|it| serde_json::from_slice::<GrpcStatus>(&it).ok())
-        .filter(GrpcStatus::is_told)
-    {
-        Some(refusal) => CallError::Refused(refusal),
-        None => CallError::Unknown(format!("etcd answered {status}")),
-    }
 }

@@ -1,9 +1,11 @@
 //! The connections to members. Only here are members called, and only here does a store's client wait for time to pass.
 use super::connector::Connector;
 use super::environment::{AnswerBody, Environment, Later, MemberAnswer, MemberCall, NoAnswer};
-use super::{Access, StartError};
+use super::grpc_channel::GrpcChannel;
+use super::{Access, EtcdProtocol, StartError};
 use hyper::body::HttpBody;
-use hyper::{header, Body, Client, Request};
+use hyper::{header, Body, Client, Request, Uri};
+use std::sync::Arc;
 use std::time::{Duration, Instant};
 use tokio::time::sleep_until;
 
@@ -14,16 +16,37 @@ const HAS_LEADER: (&str, &str) = ("Grpc-Metadata-hasleader", "true");
 
 /// The connections to the members of an etcd.
 pub(super) struct Sockets {
-    client: Client<Connector>,
+    connections: Connections,
     members: Vec<String>,
+}
+
+/// The connections by a protocol.
+enum Connections {
+    /// As many as calls go on at the same time.
+    Json(Client<Connector>),
+    /// One for each member.
+    Grpc(Vec<Arc<GrpcChannel>>),
 }
 
 impl Sockets {
     pub(super) fn new(access: &Access) -> Result<Sockets, StartError> {
-        let connector = Connector::new(access.tls()?, access.patience.min(REACH));
+        let (members, tls) = (access.members()?, access.tls()?);
+        let connector = Connector::new(tls, access.patience.min(REACH));
+        let channel = |member: &String| {
+            let uri: Result<Uri, _> = member.parse();
+            let uri = uri.map_err(|_| StartError::BadEndpoint(member.clone()))?;
+            Ok(Arc::new(GrpcChannel::new(uri, connector.clone())))
+        };
+        let connections = match access.protocol {
+            EtcdProtocol::Json => Connections::Json(Client::builder().build(connector)),
+            EtcdProtocol::Grpc => {
+                let channels: Result<_, StartError> = members.iter().map(channel).collect();
+                Connections::Grpc(channels?)
+            }
+        };
         Ok(Sockets {
-            client: Client::builder().build(connector),
-            members: access.members()?,
+            connections,
+            members,
         })
     }
 
@@ -44,12 +67,15 @@ impl Sockets {
         let request = request.body(Body::from(call.asked));
         request.map_err(|error| NoAnswer::Unreachable(error.to_string()))
     }
-}
 
-impl Environment for Sockets {
-    fn call(&self, call: MemberCall) -> Later<'static, Result<MemberAnswer, NoAnswer>> {
+    /// Calls a member in JSON.
+    fn post(
+        &self,
+        client: &Client<Connector>,
+        call: MemberCall,
+    ) -> Later<'static, Result<MemberAnswer, NoAnswer>> {
         let member = self.members[call.member].clone();
-        let asked = self.request(call).map(|it| self.client.request(it));
+        let asked = self.request(call).map(|it| client.request(it));
         Box::pin(async move {
             match asked?.await {
                 Ok(found) => Ok(MemberAnswer {
@@ -62,6 +88,25 @@ impl Environment for Sockets {
                 Err(error) => Err(NoAnswer::Broken(format!("{member}: {error}"))),
             }
         })
+    }
+}
+
+impl Environment for Sockets {
+    fn protocol(&self) -> EtcdProtocol {
+        match self.connections {
+            Connections::Json(_) => EtcdProtocol::Json,
+            Connections::Grpc(_) => EtcdProtocol::Grpc,
+        }
+    }
+
+    fn call(&self, call: MemberCall) -> Later<'static, Result<MemberAnswer, NoAnswer>> {
+        match &self.connections {
+            Connections::Json(client) => self.post(client, call),
+            Connections::Grpc(channels) => {
+                let channel = Arc::clone(&channels[call.member]);
+                Box::pin(async move { channel.call(call).await })
+            }
+        }
     }
 
     fn now(&self) -> Instant {

@@ -1,8 +1,9 @@
-use super::StartError;
+use super::{EtcdProtocol, StartError};
 use openssl::error::ErrorStack;
 use openssl::pkey::{PKey, Private};
 use openssl::ssl::{
-    Ssl, SslConnector, SslConnectorBuilder, SslMethod, SslOptions, SslSessionCacheMode, SslVersion,
+    Ssl, SslConnector, SslConnectorBuilder, SslMethod, SslOptions, SslRef, SslSessionCacheMode,
+    SslVersion,
 };
 use openssl::x509::store::{X509Store, X509StoreBuilder};
 use openssl::x509::verify::{X509CheckFlags, X509VerifyFlags};
@@ -17,20 +18,31 @@ const OF_SYSTEM: &str = "/etc/ssl/certs/ca-certificates.crt";
 const MOST_BETWEEN: u32 = 3;
 /// The cipher suites of TLS 1.2. All have forward secrecy, and none has a group that the other side makes up.
 const SUITES: &str = "ECDHE+AESGCM:ECDHE+CHACHA20:@SECLEVEL=2";
+/// The name of HTTP/2 in the handshake, and the same with its length, as the client offers it.
+const HTTP2: &[u8] = b"h2";
+const OFFERED: &[u8] = b"\x02h2";
 /// The first line of a key of any kind contains this.
 const KEY: &str = "PRIVATE KEY-----";
 
-/// The trusted authorities, and this client's identity.
+/// The trusted authorities, this client's identity, and the protocol that it speaks.
 #[derive(Clone)]
-pub(super) struct Tls(SslConnector);
+pub(super) struct Tls {
+    connector: SslConnector,
+    protocol: EtcdProtocol,
+}
 
 impl Tls {
     /// Makes the configuration that trusts the authorities in this file, or the system's if no file is named.
     pub(super) fn new(
         roots: Option<&Path>,
         identity: Option<&(PathBuf, PathBuf)>,
+        protocol: EtcdProtocol,
     ) -> Result<Tls, StartError> {
         let mut builder = builder()?;
+        match protocol {
+            EtcdProtocol::Json => {}
+            EtcdProtocol::Grpc => builder.set_alpn_protos(OFFERED)?,
+        }
         let roots = roots.unwrap_or(Path::new(OF_SYSTEM));
         let trusted = store(&certificates(roots)?).map_err(|error| bad(roots, error))?;
         builder.set_verify_cert_store(trusted)?;
@@ -38,7 +50,19 @@ impl Tls {
             show(&mut builder, &certificates(chain)?, &private_key(key)?)
                 .map_err(|error| bad(key, error))?;
         }
-        Ok(Tls(builder.build()))
+        let connector = builder.build();
+        Ok(Tls {
+            connector,
+            protocol,
+        })
+    }
+
+    /// Returns whether the member speaks the protocol, as it said in the handshake.
+    pub(super) fn is_spoken(&self, session: &SslRef) -> bool {
+        match self.protocol {
+            EtcdProtocol::Json => true,
+            EtcdProtocol::Grpc => session.selected_alpn_protocol() == Some(HTTP2),
+        }
     }
 
     /// Begins a connection to the member with this name or address, for which it must show a certificate.
@@ -46,7 +70,10 @@ impl Tls {
         // In a URL an address may be in brackets.
         let host = host.trim_matches(['[', ']']);
         let is_name = host.parse::<IpAddr>().is_err();
-        let asked = self.0.configure()?.use_server_name_indication(is_name);
+        let asked = self
+            .connector
+            .configure()?
+            .use_server_name_indication(is_name);
         let mut session = asked.into_ssl(host)?;
         session.param_mut().set_hostflags(
             X509CheckFlags::NO_PARTIAL_WILDCARDS | X509CheckFlags::NEVER_CHECK_SUBJECT,

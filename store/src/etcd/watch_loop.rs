@@ -2,7 +2,7 @@ use super::client::read_all;
 use super::gateway::Gateway;
 use super::pulse::QUIET;
 use super::race::before;
-use super::wire::{Streamed, WatchRequest, WatchResult};
+use super::wire::{WatchRequest, WatchResult};
 use crate::{KeyChange, Reading, Revision, Seen, Watcher};
 use std::sync::Arc;
 use std::time::Duration;
@@ -55,11 +55,8 @@ async fn follow(
     };
     loop {
         let silence = until_lost(gateway, member, prefix);
-        let found = before(stream.next::<Streamed<WatchResult>>(), silence).await;
-        let Some(Ok(Streamed {
-            result: Some(found),
-        })) = found
-        else {
+        let found = before(stream.next::<WatchResult>(), silence).await;
+        let Some(Ok(found)) = found else {
             return Ended::Lost;
         };
         if found.canceled {

@@ -1,7 +1,22 @@
-//! The messages of etcd's gateway: JSON with keys and values in base64, and numbers as texts.
+//! The messages of etcd, each in two spellings: the gateway's JSON with keys and values in base64 and numbers as texts,
+//! and Protobuf with the numbers of fields that etcd's `rpc.proto` and `kv.proto` have. Fields that aren't needed here
+//! are left out.
 use crate::{LeaseId, Outcome, Pair, Reading, Revision, StoreSize, Transaction};
+use prost::{Enumeration, Message, Oneof};
+use serde::de::DeserializeOwned;
 use serde::{Deserialize, Deserializer, Serialize, Serializer};
 use std::time::Duration;
+
+/// A message to a member.
+pub(super) trait Asked: Serialize + Message {}
+impl<T: Serialize + Message> Asked for T {}
+
+/// A message of a member.
+pub(super) trait Told: DeserializeOwned + Message + Default {}
+impl<T: DeserializeOwned + Message + Default> Told for T {}
+
+/// The most bytes of an answer, or of an element of a stream. A gateway takes no more from its member.
+pub(super) const LONGEST: usize = 1 << 31;
 
 mod bytes {
     use super::*;
@@ -41,35 +56,112 @@ mod number {
     }
 }
 
+/// A numbered value of a field, which has a name in JSON.
+mod named {
+    use super::*;
+
+    pub(super) trait Named: Into<i32> + Copy + 'static {
+        /// All values that are used here, with their names.
+        const NAMES: &'static [(Self, &'static str)];
+    }
+
+    fn names<T: Named>() -> impl Iterator<Item = (i32, &'static str)> {
+        T::NAMES.iter().map(|(it, name)| ((*it).into(), *name))
+    }
+
+    pub(super) fn serialize<T: Named, S: Serializer>(
+        value: &i32,
+        to: S,
+    ) -> Result<S::Ok, S::Error> {
+        let found = names::<T>().find(|(it, _)| it == value);
+        to.serialize_str(found.map_or("", |(_, name)| name))
+    }
+
+    /// Reads a name. One that isn't used here has a number that no value has.
+    pub(super) fn deserialize<'de, T: Named, D: Deserializer<'de>>(
+        from: D,
+    ) -> Result<i32, D::Error> {
+        let text = String::deserialize(from)?;
+        let found = names::<T>().find(|(_, name)| *name == text);
+        Ok(found.map_or(-1, |(value, _)| value))
+    }
+}
+
+/// The part of a key that a transaction compares.
+#[derive(Clone, Copy, Debug, PartialEq, Eq, PartialOrd, Ord, Enumeration)]
+#[repr(i32)]
+enum CompareTarget {
+    Version = 0,
+    Mod = 2,
+}
+
+impl named::Named for CompareTarget {
+    const NAMES: &'static [(Self, &'static str)] = &[(CompareTarget::Mod, "MOD")];
+}
+
 /// A revision that must be the same. Each field costs etcd time, so default values are left out, here and below.
-#[derive(Serialize)]
+#[derive(Message, Serialize)]
 struct Compared {
+    #[prost(bytes = "vec", tag = "3")]
     #[serde(with = "bytes")]
     key: Vec<u8>,
-    target: &'static str,
+    #[prost(enumeration = "CompareTarget", tag = "2")]
+    #[serde(serialize_with = "named::serialize::<CompareTarget, _>")]
+    target: i32,
+    /// A member takes it as 0 if it is left out.
+    #[prost(uint64, tag = "6")]
     #[serde(with = "number")]
     mod_revision: u64,
 }
 
 /// A read, a write or a deletion within a transaction.
-#[derive(Serialize)]
+#[derive(Oneof, Serialize)]
 enum Operation {
+    #[prost(message, tag = "1")]
     #[serde(rename = "request_range")]
     Read(RangeRequest),
+    #[prost(message, tag = "2")]
     #[serde(rename = "request_put")]
-    Put {
-        #[serde(with = "bytes")]
-        key: Vec<u8>,
-        #[serde(with = "bytes")]
-        value: Vec<u8>,
-        #[serde(with = "number", skip_serializing_if = "is_usual")]
-        lease: i64,
-    },
+    Put(PutRequest),
+    #[prost(message, tag = "3")]
     #[serde(rename = "request_delete_range")]
-    Delete {
-        #[serde(with = "bytes")]
-        key: Vec<u8>,
-    },
+    Delete(DeleteRequest),
+}
+
+#[derive(Message, Serialize)]
+struct PutRequest {
+    #[prost(bytes = "vec", tag = "1")]
+    #[serde(with = "bytes")]
+    key: Vec<u8>,
+    #[prost(bytes = "vec", tag = "2")]
+    #[serde(with = "bytes")]
+    value: Vec<u8>,
+    #[prost(int64, tag = "3")]
+    #[serde(with = "number", skip_serializing_if = "is_usual")]
+    lease: i64,
+}
+
+#[derive(Message, Serialize)]
+struct DeleteRequest {
+    #[prost(bytes = "vec", tag = "1")]
+    #[serde(with = "bytes")]
+    key: Vec<u8>,
+}
+
+/// The message around an operation.
+#[derive(Message, Serialize)]
+#[serde(transparent)]
+struct OperationRequest {
+    #[prost(oneof = "Operation", tags = "1, 2, 3")]
+    request: Option<Operation>,
+}
+
+impl From<Operation> for OperationRequest {
+    fn from(operation: Operation) -> OperationRequest {
+        OperationRequest {
+            request: Some(operation),
+        }
+    }
 }
 
 impl Operation {
@@ -89,18 +181,24 @@ impl Operation {
 }
 
 /// A range of keys: one key, or all up to an end.
-#[derive(Default, Serialize)]
+#[derive(Message, Serialize)]
 pub(super) struct RangeRequest {
+    #[prost(bytes = "vec", tag = "1")]
     #[serde(with = "bytes")]
     key: Vec<u8>,
+    #[prost(bytes = "vec", tag = "2")]
     #[serde(with = "bytes", skip_serializing_if = "Vec::is_empty")]
     range_end: Vec<u8>,
+    #[prost(uint64, tag = "3")]
     #[serde(with = "number", skip_serializing_if = "is_usual")]
-    limit: usize,
+    limit: u64,
+    #[prost(uint64, tag = "4")]
     #[serde(with = "number", skip_serializing_if = "is_usual")]
     revision: u64,
+    #[prost(bool, tag = "8")]
     #[serde(skip_serializing_if = "is_usual")]
     keys_only: bool,
+    #[prost(bool, tag = "9")]
     #[serde(skip_serializing_if = "is_usual")]
     count_only: bool,
 }
@@ -128,7 +226,7 @@ impl RangeRequest {
         RangeRequest {
             key: from.to_vec(),
             range_end: end.to_vec(),
-            limit,
+            limit: limit as u64,
             revision: Revision::NEVER.0,
             ..RangeRequest::default()
         }
@@ -139,7 +237,7 @@ impl RangeRequest {
         RangeRequest {
             key: from.to_vec(),
             range_end: end_of(prefix),
-            limit,
+            limit: limit as u64,
             revision: moment.0,
             ..RangeRequest::default()
         }
@@ -155,26 +253,26 @@ fn end_of(prefix: &[u8]) -> Vec<u8> {
 }
 
 /// A transaction.
-#[derive(Serialize)]
+#[derive(Message, Serialize)]
 pub(super) struct TransactionRequest {
+    #[prost(message, repeated, tag = "1")]
     #[serde(skip_serializing_if = "Vec::is_empty")]
     compare: Vec<Compared>,
+    #[prost(message, repeated, tag = "2")]
     #[serde(skip_serializing_if = "Vec::is_empty")]
-    success: Vec<Operation>,
+    success: Vec<OperationRequest>,
+    #[prost(message, repeated, tag = "3")]
     #[serde(skip_serializing_if = "Vec::is_empty")]
-    failure: Vec<Operation>,
+    failure: Vec<OperationRequest>,
 }
 
 impl TransactionRequest {
     /// Returns the request that reads these keys at this moment, or at the present if it is `NEVER`.
     pub(super) fn reading(keys: &[Vec<u8>], moment: Revision) -> TransactionRequest {
-        let reads = keys
-            .iter()
-            .map(|key| Operation::read(key, moment))
-            .collect();
+        let reads = keys.iter().map(|key| Operation::read(key, moment));
         TransactionRequest {
             compare: Vec::new(),
-            success: reads,
+            success: reads.map(OperationRequest::from).collect(),
             failure: Vec::new(),
         }
     }
@@ -182,17 +280,19 @@ impl TransactionRequest {
     pub(super) fn of(transaction: &Transaction) -> TransactionRequest {
         let compare = transaction.compares.iter().map(|it| Compared {
             key: it.key.clone(),
-            target: "MOD",
+            target: CompareTarget::Mod.into(),
             mod_revision: it.revision.0,
         });
         let deletes = transaction
             .deletes
             .iter()
-            .map(|key| Operation::Delete { key: key.clone() });
-        let puts = transaction.puts.iter().map(|it| Operation::Put {
-            key: it.key.clone(),
-            value: it.value.clone(),
-            lease: it.lease.map_or(0, |id| id.0),
+            .map(|key| Operation::Delete(DeleteRequest { key: key.clone() }));
+        let puts = transaction.puts.iter().map(|it| {
+            Operation::Put(PutRequest {
+                key: it.key.clone(),
+                value: it.value.clone(),
+                lease: it.lease.map_or(0, |id| id.0),
+            })
         });
         let reads = transaction
             .reads
@@ -201,10 +301,11 @@ impl TransactionRequest {
         let is_asked = !transaction.writes() && transaction.reads.is_empty();
         let asked = transaction.compares.first().filter(|_| is_asked);
         let asks = asked.map(|it| Operation::ask(&it.key));
+        let success = deletes.chain(puts).chain(asks);
         TransactionRequest {
             compare: compare.collect(),
-            success: deletes.chain(puts).chain(asks).collect(),
-            failure: reads.collect(),
+            success: success.map(OperationRequest::from).collect(),
+            failure: reads.map(OperationRequest::from).collect(),
         }
     }
 }
@@ -214,23 +315,28 @@ fn is_usual<T: Default + PartialEq>(number: &T) -> bool {
     *number == T::default()
 }
 
-#[derive(Default, Deserialize)]
+#[derive(Deserialize, Message)]
 #[serde(default)]
 pub(super) struct Header {
+    #[prost(uint64, tag = "3")]
     #[serde(deserialize_with = "number::deserialize")]
     pub(super) revision: u64,
 }
 
 /// A pair in the store.
-#[derive(Default, Deserialize)]
+#[derive(Deserialize, Message)]
 #[serde(default)]
 pub(super) struct Stored {
+    #[prost(bytes = "vec", tag = "1")]
     #[serde(deserialize_with = "bytes::deserialize")]
     key: Vec<u8>,
+    #[prost(bytes = "vec", tag = "5")]
     #[serde(deserialize_with = "bytes::deserialize")]
     value: Vec<u8>,
+    #[prost(uint64, tag = "3")]
     #[serde(deserialize_with = "number::deserialize")]
     mod_revision: u64,
+    #[prost(uint64, tag = "2")]
     #[serde(deserialize_with = "number::deserialize")]
     create_revision: u64,
 }
@@ -246,39 +352,53 @@ impl From<Stored> for Pair {
     }
 }
 
-#[derive(Default, Deserialize)]
+/// Returns the revision that an answer was given at.
+fn revision_of(header: &Option<Header>) -> Revision {
+    header
+        .as_ref()
+        .map_or(Revision::NEVER, |it| Revision(it.revision))
+}
+
+#[derive(Deserialize, Message)]
 #[serde(default)]
 pub(super) struct RangeResult {
-    header: Header,
+    #[prost(message, optional, tag = "1")]
+    header: Option<Header>,
+    #[prost(message, repeated, tag = "2")]
     #[serde(rename = "kvs")]
     pub(super) pairs: Vec<Stored>,
+    #[prost(bool, tag = "3")]
     pub(super) more: bool,
 }
 
 impl RangeResult {
     pub(super) fn revision(&self) -> Revision {
-        Revision(self.header.revision)
+        revision_of(&self.header)
     }
 }
 
-#[derive(Default, Deserialize)]
+#[derive(Deserialize, Message)]
 #[serde(default)]
 struct OperationResult {
+    #[prost(message, optional, tag = "1")]
     response_range: Option<RangeResult>,
 }
 
 /// The outcome of a transaction.
-#[derive(Default, Deserialize)]
+#[derive(Deserialize, Message)]
 #[serde(default)]
 pub(super) struct TransactionResult {
-    header: Header,
+    #[prost(message, optional, tag = "1")]
+    header: Option<Header>,
+    #[prost(bool, tag = "2")]
     succeeded: bool,
+    #[prost(message, repeated, tag = "3")]
     responses: Vec<OperationResult>,
 }
 
 impl TransactionResult {
     pub(super) fn revision(&self) -> Revision {
-        Revision(self.header.revision)
+        revision_of(&self.header)
     }
 
     pub(super) fn pairs(self) -> impl Iterator<Item = Pair> {
@@ -301,61 +421,72 @@ impl TransactionResult {
     }
 }
 
-/// A lease that is requested, or named.
-#[derive(Clone, Default, Serialize)]
-pub(super) struct LeaseRequest {
+/// The request for a lease.
+#[derive(Message, Serialize)]
+pub(super) struct GrantRequest {
+    #[prost(uint64, tag = "1")]
     #[serde(rename = "TTL", with = "number")]
     length: u64,
+}
+
+impl GrantRequest {
+    pub(super) fn of_length(length: Duration) -> GrantRequest {
+        GrantRequest {
+            length: length.as_secs().max(1),
+        }
+    }
+}
+
+/// A lease that is to be kept or ended.
+#[derive(Message, Serialize)]
+pub(super) struct LeaseRequest {
+    #[prost(int64, tag = "1")]
     #[serde(rename = "ID", with = "number")]
     id: i64,
 }
 
 impl LeaseRequest {
-    pub(super) fn of_length(length: Duration) -> LeaseRequest {
-        LeaseRequest {
-            length: length.as_secs().max(1),
-            id: 0,
-        }
-    }
-
     pub(super) fn of(lease: LeaseId) -> LeaseRequest {
-        LeaseRequest {
-            length: 0,
-            id: lease.0,
-        }
+        LeaseRequest { id: lease.0 }
     }
 }
 
-#[derive(Deserialize)]
+#[derive(Deserialize, Message)]
 pub(super) struct Granted {
+    #[prost(int64, tag = "2")]
     #[serde(rename = "ID", deserialize_with = "number::deserialize")]
     pub(super) id: i64,
 }
 
-/// An element of a stream.
+#[derive(Deserialize, Message)]
+pub(super) struct KeepAliveResponse {
+    #[prost(int64, tag = "3")]
+    #[serde(rename = "TTL", default, deserialize_with = "number::deserialize")]
+    pub(super) length: i64,
+}
+
+/// An element of a stream, around which JSON has a message of its own.
 #[derive(Deserialize)]
 pub(super) struct Streamed<T> {
     pub(super) result: Option<T>,
 }
 
-#[derive(Deserialize)]
-pub(super) struct KeepAliveResponse {
-    #[serde(rename = "TTL", default, deserialize_with = "number::deserialize")]
-    pub(super) length: i64,
-}
-
 /// The request for a watch.
-#[derive(Serialize)]
+#[derive(Message, Serialize)]
 pub(super) struct WatchRequest {
-    create_request: WatchCreate,
+    #[prost(message, optional, tag = "1")]
+    create_request: Option<WatchCreate>,
 }
 
-#[derive(Serialize)]
+#[derive(Message, Serialize)]
 struct WatchCreate {
+    #[prost(bytes = "vec", tag = "1")]
     #[serde(with = "bytes")]
     key: Vec<u8>,
+    #[prost(bytes = "vec", tag = "2")]
     #[serde(with = "bytes")]
     range_end: Vec<u8>,
+    #[prost(uint64, tag = "3")]
     #[serde(with = "number")]
     start_revision: u64,
 }
@@ -366,37 +497,55 @@ impl WatchRequest {
     /// something is gone.
     pub(super) fn from(prefix: &[u8], moment: Revision) -> WatchRequest {
         let (key, range_end) = (prefix.to_vec(), end_of(prefix));
-        WatchRequest {
-            create_request: WatchCreate {
-                key,
-                range_end,
-                start_revision: moment.0,
-            },
-        }
+        let create_request = Some(WatchCreate {
+            key,
+            range_end,
+            start_revision: moment.0,
+        });
+        WatchRequest { create_request }
     }
 }
 
 /// An element of a watch's stream.
-#[derive(Default, Deserialize)]
+#[derive(Deserialize, Message)]
 #[serde(default)]
 pub(super) struct WatchResult {
-    pub(super) header: Header,
+    #[prost(bool, tag = "4")]
     pub(super) canceled: bool,
+    #[prost(message, repeated, tag = "11")]
     pub(super) events: Vec<WatchEvent>,
 }
 
-#[derive(Default, Deserialize)]
+#[derive(Clone, Copy, Debug, PartialEq, Eq, PartialOrd, Ord, Enumeration)]
+#[repr(i32)]
+enum EventKind {
+    Put = 0,
+    Delete = 1,
+}
+
+impl named::Named for EventKind {
+    const NAMES: &'static [(Self, &'static str)] =
+        &[(EventKind::Put, "PUT"), (EventKind::Delete, "DELETE")];
+}
+
+#[derive(Deserialize, Message)]
 #[serde(default)]
 pub(super) struct WatchEvent {
-    #[serde(rename = "type")]
-    kind: String,
-    kv: Stored,
+    #[prost(enumeration = "EventKind", tag = "1")]
+    #[serde(
+        rename = "type",
+        deserialize_with = "named::deserialize::<EventKind, _>"
+    )]
+    kind: i32,
+    #[prost(message, optional, tag = "2")]
+    kv: Option<Stored>,
 }
 
 impl From<WatchEvent> for crate::KeyChange {
     fn from(it: WatchEvent) -> crate::KeyChange {
-        let pair = Pair::from(it.kv);
-        let value = (it.kind != "DELETE").then_some(pair.value);
+        let is_deletion = it.kind == i32::from(EventKind::Delete);
+        let pair = Pair::from(it.kv.unwrap_or_default());
+        let value = (!is_deletion).then_some(pair.value);
         crate::KeyChange {
             key: pair.key,
             value,
@@ -407,10 +556,12 @@ impl From<WatchEvent> for crate::KeyChange {
 }
 
 /// The request to discard the revisions before this one.
-#[derive(Serialize)]
+#[derive(Message, Serialize)]
 pub(super) struct Compaction {
+    #[prost(uint64, tag = "1")]
     #[serde(with = "number")]
     revision: u64,
+    #[prost(bool, tag = "2")]
     #[serde(skip_serializing_if = "is_usual")]
     physical: bool,
 }
@@ -433,14 +584,17 @@ impl Compaction {
 }
 
 /// A member's answer about its own data.
-#[derive(Default, Deserialize)]
+#[derive(Deserialize, Message)]
 #[serde(default)]
 pub(super) struct MemberStatus {
+    #[prost(uint64, tag = "3")]
     #[serde(rename = "dbSize", deserialize_with = "number::deserialize")]
     file: u64,
+    #[prost(uint64, tag = "9")]
     #[serde(rename = "dbSizeInUse", deserialize_with = "number::deserialize")]
     used: u64,
     /// Members tell it from version 3.6 on.
+    #[prost(uint64, tag = "12")]
     #[serde(rename = "dbSizeQuota", deserialize_with = "number::deserialize")]
     quota: u64,
 }
@@ -455,50 +609,95 @@ impl From<MemberStatus> for StoreSize {
     }
 }
 
-/// An empty message.
-#[derive(Serialize)]
+/// An empty message, or one whose fields aren't read.
+#[derive(Deserialize, Message, Serialize)]
 pub(super) struct Nothing {}
 
+/// A user's name and password.
+#[derive(Message, Serialize)]
+pub(super) struct Credentials {
+    #[prost(string, tag = "1")]
+    pub(super) name: String,
+    #[prost(string, tag = "2")]
+    pub(super) password: String,
+}
+
+#[derive(Deserialize, Message)]
+pub(super) struct Authenticated {
+    #[prost(string, tag = "2")]
+    pub(super) token: String,
+}
+
+#[derive(Clone, Copy, Debug, PartialEq, Eq, PartialOrd, Ord, Enumeration)]
+#[repr(i32)]
+enum AlarmAction {
+    Get = 0,
+    Deactivate = 2,
+}
+
+impl named::Named for AlarmAction {
+    const NAMES: &'static [(Self, &'static str)] = &[
+        (AlarmAction::Get, "GET"),
+        (AlarmAction::Deactivate, "DEACTIVATE"),
+    ];
+}
+
+#[derive(Clone, Copy, Debug, PartialEq, Eq, PartialOrd, Ord, Enumeration)]
+#[repr(i32)]
+enum AlarmKind {
+    Any = 0,
+    NoSpace = 1,
+}
+
+impl named::Named for AlarmKind {
+    const NAMES: &'static [(Self, &'static str)] = &[(AlarmKind::NoSpace, "NOSPACE")];
+}
+
 /// An alarm of a member, and the action on it.
-#[derive(Serialize)]
+#[derive(Message, Serialize)]
 pub(super) struct AlarmRequest {
-    action: &'static str,
-    #[serde(rename = "memberID")]
-    member: String,
-    alarm: &'static str,
+    #[prost(enumeration = "AlarmAction", tag = "1")]
+    #[serde(serialize_with = "named::serialize::<AlarmAction, _>")]
+    action: i32,
+    #[prost(uint64, tag = "2")]
+    #[serde(rename = "memberID", with = "number")]
+    member: u64,
+    #[prost(enumeration = "AlarmKind", tag = "3")]
+    #[serde(serialize_with = "named::serialize::<AlarmKind, _>")]
+    alarm: i32,
 }
 
 impl AlarmRequest {
-    const NO_SPACE: &'static str = "NOSPACE";
-
     /// Returns the request for the members whose quota is full.
     pub(super) fn all() -> AlarmRequest {
         AlarmRequest {
-            action: "GET",
-            member: "0".to_owned(),
-            alarm: AlarmRequest::NO_SPACE,
+            action: AlarmAction::Get.into(),
+            member: 0,
+            alarm: AlarmKind::NoSpace.into(),
         }
     }
 
     /// Returns the request to end this alarm.
     pub(super) fn end(alarm: Alarm) -> AlarmRequest {
         AlarmRequest {
-            action: "DEACTIVATE",
+            action: AlarmAction::Deactivate.into(),
             member: alarm.member,
-            alarm: AlarmRequest::NO_SPACE,
+            alarm: AlarmKind::NoSpace.into(),
         }
     }
 }
 
-#[derive(Default, Deserialize)]
+#[derive(Deserialize, Message)]
 #[serde(default)]
 pub(super) struct Alarms {
+    #[prost(message, repeated, tag = "2")]
     pub(super) alarms: Vec<Alarm>,
 }
 
-#[derive(Default, Deserialize)]
+#[derive(Deserialize, Message)]
 #[serde(default)]
 pub(super) struct Alarm {
-    #[serde(rename = "memberID")]
-    member: String,
+    #[prost(uint64, tag = "1")]
+    #[serde(rename = "memberID", deserialize_with = "number::deserialize")]
+    member: u64,
 }

@@ -1,6 +1,6 @@
 //! The common part of the tests of stores.
 #![allow(dead_code)]
-use durkenzo_store::{Access, Embedded, Etcd, PrefixedStore, ReadError, Store, Sync};
+use durkenzo_store::{Access, Embedded, Etcd, EtcdProtocol, PrefixedStore, ReadError, Store, Sync};
 use std::env;
 use std::fs;
 use std::io::{Read, Write};
@@ -18,6 +18,36 @@ pub mod relay;
 const TRIES: u32 = 10;
 /// How long to wait for an answer, on a machine that may be busy.
 pub const PATIENCE: Duration = Duration::from_secs(30);
+
+/// Makes tests of functions that take the protocol of etcd: one for each protocol.
+#[macro_export]
+macro_rules! by_each_protocol {
+    ($($test:ident),+ $(,)?) => {
+        mod in_json {
+            $(#[test]
+            fn $test() {
+                super::$test(durkenzo_store::EtcdProtocol::Json);
+            })+
+        }
+
+        mod by_grpc {
+            $(#[test]
+            fn $test() {
+                super::$test(durkenzo_store::EtcdProtocol::Grpc);
+            })+
+        }
+    };
+}
+
+/// Returns a store in these members.
+pub fn store_in(endpoints: &[&str], patience: Duration, protocol: EtcdProtocol) -> Etcd {
+    let access = Access {
+        patience,
+        protocol,
+        ..Access::new(endpoints.iter().copied())
+    };
+    Etcd::new(access).expect("addresses")
+}
 
 /// A folder that is removed when it is dropped.
 pub struct Folder(PathBuf);
@@ -55,43 +85,45 @@ pub struct Member {
     process: Child,
     folder: Folder,
     options: Vec<String>,
+    /// How its stores call it.
+    protocol: EtcdProtocol,
     pub endpoint: String,
     peer: String,
 }
 
 impl Member {
     /// Starts a member, if etcd is installed.
-    pub fn start(options: &[&str]) -> Option<Member> {
-        let member = Member::begin_alone("http://127.0.0.1", options)?;
+    pub fn start(protocol: EtcdProtocol, options: &[&str]) -> Option<Member> {
+        let member = Member::begin_alone(protocol, "http://127.0.0.1", options)?;
         member.wait_until_up();
         Some(member)
     }
 
     /// Returns a cluster of so many members, if etcd is installed.
-    pub fn start_cluster(members: usize) -> Option<Vec<Member>> {
+    pub fn start_cluster(protocol: EtcdProtocol, members: usize) -> Option<Vec<Member>> {
         let peers: Vec<_> = (0..members).map(|_| address()).collect();
         let named = peers.iter().enumerate();
         let all: Vec<_> = named.map(|(at, it)| format!("m{at}={it}")).collect();
         let all = all.join(",");
         let begin = |(at, peer): (usize, &String)| {
             let options = ["--name", &format!("m{at}"), "--initial-cluster", &all];
-            Member::begin(address(), peer.clone(), &options)
+            Member::begin(protocol, address(), peer.clone(), &options)
         };
         let members: Option<Vec<_>> = peers.iter().enumerate().map(begin).collect();
         members.inspect(|it| it.iter().for_each(Member::wait_until_up))
     }
 
     /// Starts a member that speaks TLS with these options. It listens, and may not be up yet.
-    pub fn start_with_tls(options: &[&str]) -> Option<Member> {
-        Member::begin_alone("https://localhost", options)
+    pub fn start_with_tls(protocol: EtcdProtocol, options: &[&str]) -> Option<Member> {
+        Member::begin_alone(protocol, "https://localhost", options)
     }
 
     /// Starts a member that listens at a port of this host. It ends if another program takes one of its ports, so it is
     /// started again at others.
-    fn begin_alone(host: &str, options: &[&str]) -> Option<Member> {
+    fn begin_alone(protocol: EtcdProtocol, host: &str, options: &[&str]) -> Option<Member> {
         for _ in 0..TRIES {
             let endpoint = format!("{host}:{}", free_port());
-            let mut member = Member::begin(endpoint, address(), options)?;
+            let mut member = Member::begin(protocol, endpoint, address(), options)?;
             if member.listens() {
                 return Some(member);
             }
@@ -113,7 +145,12 @@ impl Member {
         true
     }
 
-    fn begin(endpoint: String, peer: String, options: &[&str]) -> Option<Member> {
+    fn begin(
+        protocol: EtcdProtocol,
+        endpoint: String,
+        peer: String,
+        options: &[&str],
+    ) -> Option<Member> {
         let folder = Folder::new();
         let options: Vec<_> = options.iter().map(|it| it.to_string()).collect();
         let process = run(&folder, &endpoint, &peer, &options)?;
@@ -121,6 +158,7 @@ impl Member {
             process,
             folder,
             options,
+            protocol,
             endpoint,
             peer,
         })
@@ -174,19 +212,28 @@ impl Member {
     }
 
     pub fn store(&self) -> Etcd {
-        let access = Access {
-            patience: PATIENCE,
-            ..Access::new([self.endpoint.as_str()])
-        };
-        Etcd::new(access).expect("an address")
+        store_in(&[&self.endpoint], PATIENCE, self.protocol)
+    }
+
+    /// Returns how many calls with this name of gRPC it got, of its gateway, too.
+    pub fn calls(&self, method: &str) -> u64 {
+        let told = self.answer("GET", "/metrics", "");
+        let named = format!("grpc_server_started_total{{grpc_method=\"{method}\"");
+        let mut found = told.lines().filter(|it| it.starts_with(&named));
+        let count = found.next().and_then(|it| it.rsplit(' ').next());
+        count.and_then(|it| it.parse().ok()).expect("a count")
     }
 
     /// Calls its gateway.
     pub fn post(&self, path: &str, asked: &str) -> String {
+        self.answer("POST", path, asked)
+    }
+
+    fn answer(&self, method: &str, path: &str, asked: &str) -> String {
         let mut stream =
             TcpStream::connect(self.endpoint.trim_start_matches("http://")).expect("it listens");
         let length = asked.len();
-        let asked = format!("POST {path} HTTP/1.0\r\nContent-Length: {length}\r\n\r\n{asked}");
+        let asked = format!("{method} {path} HTTP/1.0\r\nContent-Length: {length}\r\n\r\n{asked}");
         // It is sent in one piece, because the system would delay a second one.
         stream.write_all(asked.as_bytes()).expect("it hears");
         let mut answer = String::new();
@@ -263,8 +310,10 @@ pub fn over_each(test: impl Fn(&dyn Store)) {
     ));
     let folder = Folder::new();
     test(&folder.open());
-    match Member::start(&[]) {
-        Some(member) => test(&member.store()),
-        None => eprintln!("etcd isn't installed: the test isn't run over it"),
+    for protocol in [EtcdProtocol::Json, EtcdProtocol::Grpc] {
+        match Member::start(protocol, &[]) {
+            Some(member) => test(&member.store()),
+            None => eprintln!("etcd isn't installed: the test isn't run over it"),
+        }
     }
 }

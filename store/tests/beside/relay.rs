@@ -8,7 +8,6 @@ use std::time::Duration;
 /// Passes on the bytes that are sent to a member, and can hold them back.
 pub struct Relay {
     pub endpoint: String,
-    sent: Arc<Mutex<Vec<u8>>>,
     callers: Arc<AtomicUsize>,
     /// The connections that go on. None can begin while there is no list.
     connections: Connections,
@@ -28,14 +27,12 @@ impl Relay {
         let listener = TcpListener::bind(("127.0.0.1", 0)).expect("a port");
         let own = listener.local_addr().expect("its address");
         let member = endpoint.trim_start_matches("http://").to_owned();
-        let sent = Arc::new(Mutex::new(Vec::new()));
         let callers = Arc::new(AtomicUsize::new(0));
         let connections: Connections = Arc::new(Mutex::new(Some(Vec::new())));
-        let (noted, counted) = (Arc::clone(&sent), Arc::clone(&callers));
-        let going_on = Arc::clone(&connections);
+        let (counted, going_on) = (Arc::clone(&callers), Arc::clone(&connections));
         thread::spawn(move || {
             for client in listener.incoming() {
-                let (client, noted) = (client.expect("a caller"), Arc::clone(&noted));
+                let client = client.expect("a caller");
                 match &mut *going_on.lock().unwrap_or_else(PoisonError::into_inner) {
                     Some(list) => list.push(client.try_clone().expect("it")),
                     None => continue,
@@ -46,15 +43,14 @@ impl Relay {
                 let to = to.expect("it");
                 thread::spawn(move || {
                     thread::sleep(delay);
-                    pass(client, member, |some| lock(&noted).extend(some));
+                    pass(client, member);
                 });
-                thread::spawn(move || pass(back, to, |_| {}));
+                thread::spawn(move || pass(back, to));
             }
         });
         let endpoint = format!("http://{own}");
         Relay {
             endpoint,
-            sent,
             callers,
             connections,
         }
@@ -85,25 +81,12 @@ impl Relay {
     pub fn callers(&self) -> usize {
         self.callers.load(Ordering::Relaxed)
     }
-
-    /// Returns how many calls with this path were sent.
-    pub fn calls(&self, path: &str) -> usize {
-        let sent = lock(&self.sent);
-        String::from_utf8_lossy(&sent)
-            .matches(&format!("POST {path} "))
-            .count()
-    }
-}
-
-fn lock(sent: &Mutex<Vec<u8>>) -> std::sync::MutexGuard<'_, Vec<u8>> {
-    sent.lock().unwrap_or_else(PoisonError::into_inner)
 }
 
 /// Passes on all bytes, until either end hangs up.
-fn pass(mut from: TcpStream, mut to: TcpStream, mut note: impl FnMut(&[u8])) {
+fn pass(mut from: TcpStream, mut to: TcpStream) {
     let mut some = [0; 4_096];
     while let Ok(length @ 1..) = from.read(&mut some) {
-        note(&some[..length]);
         if to.write_all(&some[..length]).is_err() {
             break;
         }
