@@ -128,7 +128,7 @@ pub use call_error::CallError;
 pub use changes::{Changes, Piece};
 pub use durkenzo::{Mode, ServerId};
 pub use durkenzo_control::control::Balance;
-pub use durkenzo_store::KeyPrefix;
+pub use durkenzo_store::{EtcdProtocol, KeyPrefix};
 pub use enter::{Destination, Enter, Refused};
 pub use fleet::Fleet;
 #[doc(hidden)]

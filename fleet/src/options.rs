@@ -5,7 +5,7 @@ use clap::{Args, Parser};
 use durkenzo::LayoutFault;
 use durkenzo_control::control::Balance;
 use durkenzo_control::links::Secret;
-use durkenzo_store::{Access, Etcd, KeyPrefix, PrefixedStore, Store};
+use durkenzo_store::{Access, Etcd, EtcdProtocol, KeyPrefix, PrefixedStore, Store};
 use std::net::{SocketAddr, TcpListener};
 use std::path::PathBuf;
 use std::sync::Arc;
@@ -262,6 +262,15 @@ pub struct EtcdOptions {
         requires = "etcd_cert"
     )]
     pub etcd_key: Option<PathBuf>,
+
+    /// How etcd is called: in JSON by its gateways, or by gRPC, which costs it less
+    #[arg(
+        long,
+        env = "DURKENZO_ETCD_PROTOCOL",
+        value_name = "json|grpc",
+        default_value_t
+    )]
+    pub etcd_protocol: EtcdProtocol,
 }
 
 impl EtcdOptions {
@@ -282,6 +291,7 @@ impl EtcdOptions {
             user: self.etcd_user.clone().zip(password.flatten().map(text)),
             roots: self.etcd_ca.clone(),
             identity: self.etcd_cert.clone().zip(self.etcd_key.clone()),
+            protocol: self.etcd_protocol,
             ..Access::new(members)
         })
     }
@@ -404,7 +414,7 @@ mod tests {
         fs::write(&file, "word\n").unwrap();
         let words = format!(
             "--etcd https://a:1,https://b:2 --etcd-user fleet --etcd-password-file {} --etcd-ca ca.pem \
-             --etcd-cert own.pem --etcd-key own.key",
+             --etcd-cert own.pem --etcd-key own.key --etcd-protocol grpc",
             file.display()
         );
         let options = parsed(&words).unwrap();
@@ -414,12 +424,14 @@ mod tests {
         assert_eq!(access.roots.as_deref(), Some(Path::new("ca.pem")));
         let identity = access.identity.unwrap();
         assert_eq!(identity, ("own.pem".into(), "own.key".into()));
+        assert_eq!(access.protocol, EtcdProtocol::Grpc);
         fs::remove_file(&file).unwrap();
         let gone = options.etcd_access.access(&options.etcd);
         assert!(matches!(gone, Err(JoinError::Secret(_))));
         let plain = parsed("").unwrap();
         let access = plain.etcd_access.access(&plain.etcd).unwrap();
         assert!(access.user.is_none() && access.roots.is_none() && access.identity.is_none());
+        assert_eq!(access.protocol, EtcdProtocol::Json);
     }
 
     #[test]
@@ -443,6 +455,7 @@ mod tests {
         for (words, named) in [
             ("--etcd-user x", "--etcd-password-file"),
             ("--etcd-cert x", "--etcd-key"),
+            ("--etcd-protocol http", "json or grpc"),
             ("--tls-ca x", "--tls-cert"),
             ("--tls-cert x", "--tls-ca"),
             ("--settings x --servers 3", "--servers"),

@@ -56,12 +56,13 @@ ROOM = MEMORY if HAS_MEMORY else None
 class Etcd:
     """Members of etcd, in a folder of their own."""
 
-    def __init__(self, count, room, quota):
+    def __init__(self, count, room, quota, gateway):
         ports = free_ports(2 * count)
         self.clients, peers = ports[:count], ports[count:]
         named = ",".join(f"m{it}=http://127.0.0.1:{port}" for it, port in enumerate(peers))
         self.commands = [member(it, room, self.clients[it], peers[it], named) for it in range(count)]
-        self.commands = [[*it, "--quota-backend-bytes", str(quota)] for it in self.commands]
+        more = ["--quota-backend-bytes", str(quota), f"--enable-grpc-gateway={str(gateway).lower()}"]
+        self.commands = [[*it, *more] for it in self.commands]
         self.processes = [self.begin(it) for it in range(count)]
         self.urls = ",".join(f"http://127.0.0.1:{it}" for it in self.clients)
 
@@ -165,9 +166,9 @@ class Cluster:
 
 
 @contextlib.contextmanager
-def cluster(program, *options, lease=LASTING, members=1, env=None, quota=0, has_pages=False):
+def cluster(program, *options, lease=LASTING, members=1, env=None, quota=0, has_pages=False, gateway=True):
     with tempfile.TemporaryDirectory(prefix="sm-cluster-", dir=ROOM) as room:
-        etcd = Etcd(members, room, quota)
+        etcd = Etcd(members, room, quota, gateway)
         try:
             etcd.wait_until_up()
             pages = free_ports(SERVERS) if has_pages else ()
@@ -771,6 +772,25 @@ def kills_of_a_process_lose_nothing(program):
     return f"{total} additions, answered elsewhere after {took:.1f} s, longest {load.longest:.1f} s"
 
 
+def a_cluster_by_grpc_needs_no_gateway(program):
+    """Members without their gateway are called. A kill loses no addition, and a shard moves."""
+    with cluster(program, "--etcd-protocol", "grpc", lease=LEASE, members=3, gateway=False) as several:
+        killed = next(it for it in several.processes if it != several.leader())
+        with Load(several, 6) as load:
+            several.processes[killed].kill()
+            del several.processes[killed]
+            several.settled(without=killed)
+        wrong = [it for it in load.errors if not it.startswith(("UNKNOWN", "PEERDOWN"))]
+        assert not wrong, wrong[:3]
+        several.begin(killed)
+        with several.any() as client:
+            total = load.checked(client)
+            eventually(lambda: rows(client)[killed - 1][1] == "up")
+            client.ask("SM", "MIGRATE", 0, killed)
+            several.settled()
+    return f"{total} additions"
+
+
 @again
 def who_does_not_wait_is_told(program):
     """A process is stopped, and one is gone. Requests that were sent to it may be done; others aren't."""
@@ -1169,6 +1189,7 @@ TESTS = [
     shards_spread_over_servers_again,
     servers_even_out_by_themselves,
     kills_of_a_process_lose_nothing,
+    a_cluster_by_grpc_needs_no_gateway,
     who_does_not_wait_is_told,
     one_process_knows_a_command_more,
     who_takes_the_place_of_a_process_is_asked,

@@ -3,7 +3,7 @@ use crate::run::BoxError;
 use clap::{Args, ValueEnum};
 use durkenzo_control::control::Balance;
 use durkenzo_driver::{Addresses, Reads};
-use durkenzo_store::{Access, KeyPrefix};
+use durkenzo_store::{Access, EtcdProtocol, KeyPrefix};
 use std::fs;
 use std::net::SocketAddr;
 use std::path::PathBuf;
@@ -110,6 +110,16 @@ pub struct JoinOptions {
     /// PEM file with its key
     #[arg(long, value_name = "FILE", requires = "etcd_cert", help_heading = CLUSTER)]
     pub etcd_key: Option<PathBuf>,
+
+    /// How etcd is called: in JSON by its gateways, or by gRPC, which costs it less
+    #[arg(
+        long,
+        value_name = "json|grpc",
+        default_value_t,
+        requires = "etcd",
+        help_heading = CLUSTER
+    )]
+    pub etcd_protocol: EtcdProtocol,
 }
 
 /// How reads are answered.
@@ -161,6 +171,7 @@ impl JoinOptions {
             user,
             roots: self.etcd_ca.clone(),
             identity: self.etcd_cert.clone().zip(self.etcd_key.clone()),
+            protocol: self.etcd_protocol,
             ..Access::new(self.etcd.iter().cloned())
         })
     }
@@ -187,6 +198,7 @@ mod tests {
     use crate::options::Options;
     use clap::Parser;
     use durkenzo_driver::Addresses;
+    use durkenzo_store::EtcdProtocol;
 
     fn parsed(words: &str) -> Result<Options, String> {
         let words = ["sm serve"].into_iter().chain(words.split_whitespace());
@@ -213,6 +225,11 @@ mod tests {
             ("--data x --reads lease", "--etcd"),
             ("--prefix /x/", "--etcd"),
             ("--etcd http://a:1 --name 1 --prefix x", "--prefix"),
+            ("--etcd-protocol grpc", "--etcd"),
+            (
+                "--etcd http://a:1 --name 1 --etcd-protocol http",
+                "json or grpc",
+            ),
         ] {
             let told = parsed(words).unwrap_err();
             assert!(told.contains(named), "{words}: {told}");
@@ -221,6 +238,9 @@ mod tests {
         assert_eq!(options.join.etcd, ["http://a:1", "https://b:2"]);
         assert_eq!((options.join.server(), options.join.lease), (Some(3), 3));
         assert_eq!(parsed("").unwrap().join.server(), None);
+        let by_grpc = parsed("--etcd http://a:1 --name 3 --etcd-protocol grpc").unwrap();
+        let protocols = [options, by_grpc].map(|it| it.join.access().unwrap().protocol);
+        assert_eq!(protocols, [EtcdProtocol::Json, EtcdProtocol::Grpc]);
     }
 
     #[test]
