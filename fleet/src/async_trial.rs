@@ -44,9 +44,8 @@ impl Service for Counter {
 fn fleets(servers: u16, words: &[&str]) -> (Arc<dyn Store>, Vec<Arc<Fleet<Counter>>>) {
     let store: Arc<dyn Store> = Arc::new(Embedded::in_memory());
     let join = |server: u16| {
-        let words = ["fleet", "--shards", "2", "--lease", "60"]
-            .iter()
-            .chain(words);
+        let fixed = "fleet --shards 2 --lease 60 --balance off".split(' ');
+        let words = fixed.chain(words.iter().copied());
         let mut options = <Options as clap::Parser>::parse_from(words);
         (options.name, options.servers) = (server, servers);
         Arc::new(Fleet::join_over(Counter, options, store.clone()).unwrap())

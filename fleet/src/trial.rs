@@ -276,7 +276,7 @@ struct Trial {
 }
 
 fn options(server: u16, lease: u64, plant: Option<Plant>) -> Options {
-    let words = ["fleet", "--margin", "100"];
+    let words = ["fleet", "--margin", "100", "--balance", "off"];
     let mut options = <Options as clap::Parser>::parse_from(words);
     (options.name, options.servers, options.shards) = (server, SERVERS, SHARDS);
     (options.lease, options.plant) = (lease, plant);

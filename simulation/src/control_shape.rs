@@ -1,6 +1,8 @@
 use crate::bug::Bug;
 use crate::chance::Chance;
 use crate::command::settings;
+use std::sync::atomic::{AtomicBool, AtomicU64};
+use std::sync::Arc;
 use std::time::Duration;
 
 /// The controls of a schedule.
@@ -8,6 +10,10 @@ pub struct ControlShape {
     pub settings: String,
     /// The shortest time that a step of a migration takes.
     pub pace: Duration,
+    /// Whether they even out servers. At the end of a schedule they don't, so that it comes to its end.
+    pub balances: Arc<AtomicBool>,
+    /// How many shards they moved for that.
+    pub balanced: Arc<AtomicU64>,
     pub bug: Option<Bug>,
     /// Whether each server has room for all shards.
     pub is_roomy: bool,
@@ -21,6 +27,8 @@ impl ControlShape {
         ControlShape {
             settings: settings(shards, room),
             pace: Duration::from_millis([0, 0, 5][chance.below(3) as usize]),
+            balances: Arc::new(AtomicBool::new(room >= shards)),
+            balanced: Arc::default(),
             bug,
             is_roomy: room >= shards,
         }

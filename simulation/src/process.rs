@@ -137,6 +137,8 @@ impl Process {
         let host = SimulatedHost {
             is_stopping: self.is_stopping.clone(),
             pace: shape.pace,
+            balances: shape.balances.clone(),
+            balanced: shape.balanced.clone(),
         };
         let peers = SimulatedPeers {
             member: self.member.clone(),
@@ -147,6 +149,9 @@ impl Process {
         };
         let (host, peers) = (Arc::new(host), Arc::new(peers));
         let (durable, line) = (self.durable.clone(), shape.settings.clone());
+        if shape.is_roomy {
+            durable.measure_loads();
+        }
         self.campaigner = Some(Campaigner::new(host, durable, peers, line, true));
         self.bug = shape.bug;
     }

@@ -1,13 +1,18 @@
-use durkenzo_control::control::{ControlAnswer, ControlHost, Doing, ReplyTo};
+use durkenzo_control::control::{Balance, ControlAnswer, ControlHost, Doing, ReplyTo};
 use durkenzo_driver::{ControlCommand, ServerState};
-use std::sync::atomic::{AtomicBool, Ordering};
+use std::sync::atomic::{AtomicBool, AtomicU64, Ordering};
 use std::sync::Arc;
 use std::time::Duration;
+
+/// How long a leader waits before it evens out servers: much less than one that ships, because schedules are short.
+const CALM: Duration = Duration::from_millis(50);
 
 /// A host of a control that shows nothing.
 pub struct SimulatedHost {
     pub is_stopping: Arc<AtomicBool>,
     pub pace: Duration,
+    pub balances: Arc<AtomicBool>,
+    pub balanced: Arc<AtomicU64>,
 }
 
 impl ControlHost for SimulatedHost {
@@ -26,6 +31,21 @@ impl ControlHost for SimulatedHost {
     fn note_change(&self, _command: ControlCommand) {}
 
     fn note_load(&self) {}
+
+    fn balance(&self) -> Balance {
+        match self.balances.load(Ordering::Relaxed) {
+            true => Balance::Fast,
+            false => Balance::Off,
+        }
+    }
+
+    fn calm(&self) -> Duration {
+        CALM
+    }
+
+    fn note_balanced(&self) {
+        self.balanced.fetch_add(1, Ordering::Relaxed);
+    }
 
     fn shard_line(&self, _shard: u16) -> Option<String> {
         None

@@ -21,6 +21,8 @@ pub struct Tally {
     pub elections: u64,
     /// How often a leader compacted history.
     pub compactions: u64,
+    /// How many shards leaders moved to even out servers.
+    pub balanced: u64,
     pub changes: u64,
     pub bases: u64,
     pub deleted: u64,
@@ -71,6 +73,7 @@ impl Tally {
         self.renewed += more.renewed;
         self.elections += more.elections;
         self.compactions += more.compactions;
+        self.balanced += more.balanced;
         self.changes += more.changes;
         self.bases += more.bases;
         self.deleted += more.deleted;
@@ -139,6 +142,7 @@ impl fmt::Display for Tally {
             ("renewed", self.renewed),
             ("elections", self.elections),
             ("compactions by leaders", self.compactions),
+            ("balanced by leaders", self.balanced),
             ("changes", self.changes),
             ("bases", self.bases),
             ("deleted", self.deleted),

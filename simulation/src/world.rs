@@ -318,6 +318,8 @@ impl World {
         let store = locked(&self.store);
         self.tally.lost = store.lost;
         self.tally.compactions = store.compactions;
+        let control = self.shape.control.as_ref();
+        self.tally.balanced = control.map_or(0, |it| it.balanced.load(Ordering::Relaxed));
         self.tally.faults = FaultCounts::of(&self.faults.struck());
         for (_, transaction) in &store.made {
             let written = Written::of(transaction);

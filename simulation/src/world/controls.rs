@@ -245,6 +245,9 @@ impl World {
         if !self.passes_until(WELL, missing, is_well) {
             return self.find("shards get owners that run", self.shown());
         }
+        if let Some(control) = &self.shape.control {
+            control.balances.store(false, Ordering::Relaxed);
+        }
         if !self.passes_until(OVER, 0, World::is_over) {
             return self.find("all that is under way comes to its end", self.shown());
         }
