@@ -9,8 +9,8 @@ use std::collections::{BTreeMap, BTreeSet};
 const UNEVEN: u128 = 20;
 /// Once shards move, they do until no server's weight differs from the mean by more than this.
 const EVEN: u128 = 10;
-/// After a move its destination's weight must be less than that of the other server before, by at least this part of the
-/// mean, in percent. So a shard doesn't move back once its weight changes a little.
+/// After a move its destination's weight must be less than that of the other server before, by at least this part of
+/// the mean, in percent. So a shard doesn't move back once its weight changes a little.
 const GAIN: u128 = 5;
 /// A shard moves only if its weight is at least this part of the mean of shards, in percent: a lighter one gains too
 /// little for a move.
@@ -114,8 +114,8 @@ impl BalancedShares {
         self.0.values().map(|it| it.count as u128).sum()
     }
 
-    /// Returns the next move: of those from a server with a great weight to one with a small one, the first by which the
-    /// two become as even as they can. The shard counts at its destination from then on.
+    /// Returns the next move: of those from a server with a great weight to one with a small one, the first by which
+    /// the two become as even as they can. The shard counts at its destination from then on.
     pub(super) fn next(&mut self, left_out: &LeftOut) -> Option<EveningMove> {
         let mut servers: Vec<(u64, u16)> = self.0.iter().map(|it| (it.1.weight, *it.0)).collect();
         servers.sort_unstable();

@@ -28,7 +28,8 @@ pub trait ControlHost: Send + Sync {
         Balance::Off
     }
 
-    /// Returns how long nothing else may have changed before it does. A simulation, whose time is short, has it wait less.
+    /// Returns how long nothing else may have changed before it does. A simulation, whose time is short, has it wait
+    /// less.
     fn calm(&self) -> Duration {
         self.balance().calm()
     }

@@ -4,8 +4,8 @@ use durkenzo::Stand;
 use durkenzo_driver::ServerState;
 use std::collections::{BTreeMap, BTreeSet};
 
-/// How many shards each server has that is up and there, and isn't and wasn't drained for good. A shard on its way counts
-/// at its destination.
+/// How many shards each server has that is up and there, and isn't and wasn't drained for good. A shard on its way
+/// counts at its destination.
 #[derive(Debug, Default)]
 pub(super) struct Shares(BTreeMap<u16, Share>);
 

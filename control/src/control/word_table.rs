@@ -232,8 +232,8 @@ const WORDS: [SmWord; 39] = [
     SmWord::new("MIGRATE k b", "moves shard k to server b by a whole migration, under load", Does::Pair(migrate)),
     SmWord::new("DRAIN a", "migrates all shards of server a, as the library plans; drains go one by one",
         Does::Number(|_, server| Ok(TaskWork::Drain(Drain::new(server, false)).into()))),
-    SmWord::new("UNDRAIN a", "where data outlives the process: server a, which was drained, gets shards by itself again; \
-        SPREAD does that for all servers", Does::Number(undrain)).only(There::Stores),
+    SmWord::new("UNDRAIN a", "where data outlives the process: server a, which was drained, gets shards by itself \
+        again; SPREAD does that for all servers", Does::Number(undrain)).only(There::Stores),
     SmWord::new("SPREAD", "migrates shards from servers that have many to those that have few", Does::Bare(spread)),
     SmWord::new("WEIGHTS", "the load of each shard, below the columns' names, by which --balance evens out servers: \
         requests a second, KiB in the store, and its weight of one, one for each request and one for each MiB",

@@ -402,8 +402,8 @@ impl Durable {
         self.inner.block_until(end, are_made);
     }
 
-    /// Has this process measure how much its shards have to do, and tell that to the leader, at most every five seconds.
-    /// It is told under the lease of this process's server.
+    /// Has this process measure how much its shards have to do, and tell that to the leader, at most every five
+    /// seconds. It is told under the lease of this process's server.
     pub fn measure_loads(&self) {
         self.inner.meter.turn_on();
     }
