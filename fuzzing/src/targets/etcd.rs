@@ -110,17 +110,31 @@ fn messages(answers: &[Value]) -> Vec<Vec<u8>> {
     ]
 }
 
-/// Reads an answer by gRPC. What JSON says of pairs, it says, too.
+/// Reads an answer by gRPC. It must be the same if it is written anew.
 fn by_grpc(input: &[u8]) -> Result<(), String> {
     if let Ok(found) = TransactionResult::decode(input) {
-        of_transaction(found.outcome())?;
+        let again = written_anew(&found)?.outcome();
+        holds(again == found.outcome(), || {
+            format!("{again:?} is another one")
+        })?;
     }
     if let Ok(found) = RangeResult::decode(input) {
-        let revision = found.revision();
-        of_range(revision, found.pairs.into_iter().map(Pair::from).collect())?;
+        let again = written_anew(&found)?;
+        let pairs = |it: RangeResult| it.pairs.into_iter().map(Pair::from).collect::<Vec<_>>();
+        let is_same = again.revision() == found.revision() && pairs(again) == pairs(found);
+        holds(is_same, || "the range is another one".to_owned())?;
     }
     if let Ok(found) = WatchResult::decode(input) {
-        of_watch(found)?;
+        let again = written_anew(&found)?;
+        let changes = |it: WatchResult| {
+            it.events
+                .into_iter()
+                .map(KeyChange::from)
+                .collect::<Vec<_>>()
+        };
+        holds(changes(again) == changes(found), || {
+            "changes are others".to_owned()
+        })?;
     }
     let _ = MemberStatus::decode(input).map(StoreSize::from);
     let _ = grpc_frame::read::<KeepAliveResponse>(input);
@@ -128,6 +142,11 @@ fn by_grpc(input: &[u8]) -> Result<(), String> {
     let taken = grpc_frame::take::<Granted>(&mut held);
     let is_right = held.len() == before || !matches!(taken, Ok(None));
     holds(is_right, || "bytes are lost".to_owned())
+}
+
+/// Returns what a message is if it is written and read again.
+fn written_anew<T: Message + Default>(found: &T) -> Result<T, String> {
+    T::decode(&*found.encode_to_vec()).map_err(|it| format!("{found:?} is refused: {it}"))
 }
 
 /// Its pairs must be the same if they are written anew.
