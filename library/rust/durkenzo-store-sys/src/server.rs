@@ -138,7 +138,8 @@ pub enum Passing {
 pub type Server = ShardServer<Texts>;
 
 /// The proved server of one shard, of the service with these calls. If a call can't be made, it returns a code, and
-/// `durkenzo_store.h` says which state the server then has. You may always make another server.
+/// `durkenzo_store.h` says which state the server then has. If it has read nothing, it must read the shard; or make
+/// another server.
 #[derive(Debug)]
 pub struct ShardServer<C: ServerCalls> {
     pub(crate) handle: Handle,
