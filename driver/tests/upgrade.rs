@@ -6,7 +6,7 @@ mod common;
 use beside::Member;
 use common::{held, opened};
 use durkenzo_driver::{keys, ControlCommand, Durable, DurableControl, MapReply};
-use durkenzo_store::{Embedded, Outcome, Store, Sync, Transaction};
+use durkenzo_store::{Embedded, EtcdProtocol, Outcome, Store, Sync, Transaction};
 use std::collections::BTreeMap;
 use std::fs;
 use std::path::{Path, PathBuf};
@@ -156,7 +156,7 @@ fn keys_are_read() {
 #[test]
 fn keys_on_etcd_are_read() {
     for version in versions() {
-        let Some(member) = Member::start(&[]) else {
+        let Some(member) = Member::start(EtcdProtocol::Json, &[]) else {
             return;
         };
         let store = member.store();
