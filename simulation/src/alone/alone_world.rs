@@ -27,6 +27,8 @@ const ROUNDS: u64 = 4;
 const SETTLING: u64 = 1_000;
 const PERIOD: u64 = 50;
 const SETTLED: usize = 60;
+/// After how many periods an operator brings servers back again.
+const BACK_AGAIN: u64 = 20;
 /// How many blocks of 4,096 bytes the disk has at least, and how many more there are at most, by chance.
 const LEAST_SIZE: u64 = 400;
 const MORE_SIZE: u64 = 600;
@@ -398,11 +400,14 @@ impl AloneWorld {
             locked(&disk.disk).calm();
         }
         self.revive();
-        for _ in 0..SETTLING {
+        for period in 0..SETTLING {
             if self.clients.are_told() && self.process.is_some() {
                 return self.judge();
             }
             self.settle_once();
+            if period % BACK_AGAIN == 0 {
+                self.bring_back();
+            }
             if self.fault.is_some() {
                 return;
             }
@@ -428,14 +433,17 @@ impl AloneWorld {
         }
     }
 
+    /// Has an operator bring all servers back. A restart may wait for that, if others are away.
+    fn bring_back(&mut self) {
+        let servers: Vec<_> = (1..=SERVERS).map(|it| format!("SM BACK {it}")).collect();
+        self.told_at_last(&servers);
+    }
+
     /// Judges all answers by what the keys hold, once operators have made each shard serve.
     fn judge(&mut self) {
-        let servers = (1..=SERVERS).map(|it| format!("SM BACK {it}"));
+        self.bring_back();
         let shards = (0..self.shape.shards).map(|it| format!("SM RESUME {it}"));
-        let lines: Vec<_> = servers
-            .chain(shards)
-            .chain(["SM PLACE".to_owned()])
-            .collect();
+        let lines: Vec<_> = shards.chain(["SM PLACE".to_owned()]).collect();
         self.told_at_last(&lines);
         let keys = self.shape.keys.all();
         let names: Vec<_> = keys.iter().map(|it| self.shape.keys.name(*it)).collect();
