@@ -91,6 +91,10 @@ class Proofs:
         status = self.process.wait()
         if (status or not LAST.match(self.last[-1])) and not self.has_failed:
             yield Verdict("rt ci", "\n".join([f"it ended with {status}; its last lines:", *self.last]))
+        if not self.has_failed:
+            # Edits of such a crate wouldn't be tried.
+            missing = [it for it in self.crates if it not in self.proved]
+            yield from [Verdict(f"{it} proved", "rt ci said nothing of it") for it in missing]
 
     def try_edits(self, tree):
         """Tries the edits of each crate that was proved, on each processor those of one crate, the dearest first."""
