@@ -13,7 +13,7 @@
  *    place of a request that was made before.
  *  - Answer a read by the state after exactly as many requests as durkenzo_relay_read_answer writes.
  *  - When durkenzo_relay_base begins a base, also save your state and those replies. The transaction that names the
- *    base must name what you saved. With the base, read what you saved. */
+ *    base must name this snapshot. With the base, read it. */
 #ifndef DURKENZO_RELAY_H
 #define DURKENZO_RELAY_H
 
