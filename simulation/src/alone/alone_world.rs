@@ -191,7 +191,10 @@ impl AloneWorld {
     }
 
     fn note(&self, text: impl FnOnce() -> String) {
-        self.timeline.note(PROCESS, text);
+        self.timeline.note(PROCESS, || match &self.disk {
+            Some(disk) => disk.without_first(&text()),
+            None => text(),
+        });
     }
 
     /// Starts a process.
