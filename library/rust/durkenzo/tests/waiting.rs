@@ -261,6 +261,7 @@ fn no_wake_is_lost() {
                     .change_for(shard_id(0), Change::Pause, LONG)
                     .unwrap();
                 block_on(control.change_async(shard_id(0), Change::Resume)).unwrap();
+                thread::yield_now();
             }
         });
         let counted = counts.into_iter().map(|it| it.join().unwrap()).sum();
