@@ -138,8 +138,8 @@ impl<S: Service> Fleet<S> {
     }
 
     /// Returns the owner of the shard by the record that this process has read last, for a service that tells clients
-    /// where shards are. Returns nothing if nobody owns the shard, or if there is no such shard. Who may execute is told
-    /// only by [`Fleet::enter`].
+    /// where shards are. Returns nothing if nobody owns the shard, or if there is no such shard. Who may execute is
+    /// told only by [`Fleet::enter`].
     pub fn owner(&self, shard: u16) -> Option<Destination> {
         self.inner.owner(shard)
     }

@@ -125,7 +125,8 @@ impl Router {
         block_on(self.routes.call(&self.threads, call, retry))
     }
 
-    /// Sends the request to the shard with this number, and returns the answer of the service, as [`Router::call`] does.
+    /// Sends the request to the shard with this number, and returns the answer of the service, as [`Router::call`]
+    /// does.
     ///
     /// # Errors
     ///

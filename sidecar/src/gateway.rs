@@ -165,8 +165,8 @@ impl Gateway {
         self.called(shard, head, &bytes, (began, budget)).await
     }
 
-    /// Calls until the application has answered, or the time of the call is over. A call is sent again only if it wasn't
-    /// made, and not in the last quarter of its time, because it would be unsure if its answer came too late.
+    /// Calls until the application has answered, or the time of the call is over. A call is sent again only if it
+    /// wasn't made, and not in the last quarter of its time, because it would be unsure if its answer came too late.
     async fn called(
         &self,
         shard: u16,

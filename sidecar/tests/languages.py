@@ -1,5 +1,5 @@
 #!/usr/bin/env python3
-"""Services in other languages, beside sidecars over etcd: no call is refused and no count is lost, while shards move and
+"""Services in other languages, beside sidecars over etcd: no call is refused, no count is lost, while shards move and
 while each process is restarted in turn.
 
     sidecar/tests/languages.py PROGRAM
@@ -69,7 +69,7 @@ class Pair:
         self.sidecar.wait(self.is_ready)
 
     def drain(self, is_asked_twice):
-        """Makes the sidecar leave, as a hook before a stop does, and then ends the application. A supervisor may ask the
+        """Makes the sidecar leave, as a hook before a stop does, then ends the application. A supervisor may ask the
         sidecar to end at the same time."""
         command = [self.program, "drain", "--clients", f"{HOST}:{self.port}"]
         with subprocess.Popen(command, stderr=subprocess.PIPE, text=True) as run:
@@ -171,7 +171,7 @@ def tried(program, words):
 
 
 def whose_process_is_killed(program, words):
-    """Kills an application with its sidecar, and waits until each page is answered again. Returns how long that took."""
+    """Kills an application with its sidecar, waits until each page is answered again, and returns how long that took."""
     with begun(program, words) as pairs:
         served.eventually(lambda: sum(it.owns() for it in pairs) >= SHARDS, PATIENCE)
         killed, *others = pairs

@@ -74,7 +74,7 @@ def in_rust(room):
     yield workspace.ran("the crate's tests", "test", *of)
     yield workspace.ran("the crate's example", *run, "counters", wanted=COUNTED)
     yield workspace.ran("its example that holds two shards", *run, "transfer")
-    yield workspace.ran("its example that forwards", *run, "forwarding", wanted=FORWARDED)
+    yield workspace.ran("its example that forwards", *run, "forwarded_requests", wanted=FORWARDED)
     yield workspace.ran("the example of fences compiles", "build", *of, "--example", "fenced")
     yield from fenced(room, [examples / "fenced"], "Rust")
     yield workspace.ran("the driver of scripts compiles", "build", *of, "--example", "script")

@@ -146,8 +146,8 @@ impl Durable {
         Durable::with_chores(store, shards, shard_options, own, clock)
     }
 
-    /// Opens the shards of a process as [`Durable::open`] does, with all their servers, but starts no thread. Everything
-    /// else is as with [`Durable::open_without_threads`].
+    /// Opens the shards of a process as [`Durable::open`] does, with all their servers, but starts no thread.
+    /// Everything else is as with [`Durable::open_without_threads`].
     ///
     /// # Errors
     ///

@@ -80,8 +80,8 @@ impl RespClients {
         line
     }
 
-    /// Lets the client at this place read at most so many bytes. `has_ended` tells of a process, by its life, whether it
-    /// may end connections.
+    /// Lets the client at this place read at most so many bytes. `has_ended` tells of a process, by its life, whether
+    /// it may end connections.
     fn read(
         &mut self,
         at: usize,

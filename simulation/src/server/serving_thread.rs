@@ -87,8 +87,8 @@ impl ServingThread {
         self.clients.is_some() && has_work
     }
 
-    /// Gives the thread a round. All its events are there before any is noted. `is_woken_first` says whether that of the
-    /// inlet comes before the others. The thread ends if the process stops and every request is answered.
+    /// Gives the thread a round. All its events are there before any is noted. `is_woken_first` says whether that of
+    /// the inlet comes before the others. The thread ends if the process stops and every request is answered.
     pub fn round(&mut self, is_woken_first: bool) {
         let Some(clients) = &mut self.clients else {
             return;

@@ -5,8 +5,8 @@ use crate::{Code, ShardServer};
 pub use crate::calls::PlaceAnswer;
 
 /// The proved server of one shard of a caller's own service. Requests are that service's bytes. If the first byte of a
-/// request is 1, it only reads. The reply to a request is its place among the shard's requests. The caller applies each request to its
-/// own state, in the order of places.
+/// request is 1, it only reads. The reply to a request is its place among the shard's requests. The caller applies each
+/// request to its own state, in the order of places.
 ///
 /// ```
 /// use durkenzo_store_sys::{Decision, Limits, Relay, ServerRequest};

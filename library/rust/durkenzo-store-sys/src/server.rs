@@ -307,8 +307,8 @@ impl<C: ServerCalls> ShardServer<C> {
         })
     }
 
-    /// Tells the server that its transaction was made, at this revision. Returns how many answers to requests there are,
-    /// and how many to reads.
+    /// Tells the server that its transaction was made, at this revision. Returns how many answers to requests there
+    /// are, and how many to reads.
     pub(crate) fn made_counts(&mut self, revision: u64) -> Result<(usize, usize), Code> {
         let (mut made, mut read) = (0, 0);
         let handle = &mut self.handle;

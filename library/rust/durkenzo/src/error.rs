@@ -103,7 +103,11 @@ impl Error {
             Error::Change(fault) | Error::Restore(RestoreFault::Change(fault)) => {
                 fault.is_transient()
             }
-            _ => false,
+            Error::Checkpoint(_) | Error::Restore(_) => false,
+            Error::Build(_) | Error::Settings(_) | Error::Layout(_) | Error::Pass(_) => false,
+            Error::Id(_) | Error::Shard(_) | Error::Map(_) | Error::Note(_) => false,
+            Error::Plan(_) | Error::Restart(_) | Error::Publish(_) | Error::Routes(_) => false,
+            Error::Send(_) | Error::Sent(_) => false,
         }
     }
 }
